@@ -1,0 +1,14 @@
+//! Targets, alignments, lists and texts: what every crate above counts and keeps.
+#![tactic(auto)]
+
+mod alignment;
+mod items;
+mod out_of_memory;
+mod target;
+mod text;
+
+pub use alignment::Alignment;
+pub use items::Items;
+pub use out_of_memory::OutOfMemory;
+pub use target::Target;
+pub use text::Text;
