@@ -1,0 +1,76 @@
+-- Forbidden values as a list of items from left to right, and what the leftmost leaf offers.
+use Rattle.std.specs.Prelude.{◌≡◌, ℕ, ◌+◌, ◌<◌, List, [], ◌∷◌, ◌++◌, Bool, true, false, ◌&&◌, nat_le, nat_lt, Option, Some, None, IsTrue, map}
+use Rattle.std.specs.List.{list_all, list_any}
+use Rattle.abi_bits.specs.Pairs.{Pair, is_matched, moved_pairs, are_below}
+use Rattle.abi_bits.specs.declared.forbidden_values.ForbiddenValues.{ForbiddenValues, fold-ForbiddenValues}
+use Rattle.abi_bits.specs.declared.forbidden_values.ForbiddenValues.TheOpen.{ForbiddenValues-F}
+use Rattle.abi_bits.specs.declared.single_forbidden_value.SingleForbiddenValue.{SingleForbiddenValue}
+use Rattle.abi_bits.specs.declared.single_forbidden_value.SingleForbiddenValue.TheVariants as single_variant
+
+-- a value of some bytes, or the values of one byte from the least to the greatest
+pub data Item : Type 0 where
+  pattern : List Pair → Item
+  range : ℕ → ℕ → ℕ → Item
+
+-- the image has the value that the item forbids
+abbrev pub is_match : (ℕ → ℕ) → Item → Bool
+is_match image (pattern ps) = is_matched ps image
+is_match image (range at least greatest) = nat_le least (image at) && nat_le (image at) greatest
+
+-- the one pattern that an item offers as a niche
+abbrev pub offer : Item → List Pair
+offer (pattern ps) = ps
+offer (range at least greatest) = (at, least) ∷ []
+
+abbrev pub moved_item : ℕ → Item → Item
+moved_item by (pattern ps) = pattern (moved_pairs by ps)
+moved_item by (range at least greatest) = range (at + by) least greatest
+
+-- every byte that the item names lies below n
+abbrev pub is_item_below : ℕ → Item → Bool
+is_item_below n (pattern ps) = are_below n ps
+is_item_below n (range at least greatest) = nat_lt at n
+
+abbrev pub are_items_below : ℕ → List Item → Bool
+are_items_below n its = list_all (is_item_below n) its
+
+abbrev pub is_ranged : Item → Bool
+is_ranged (pattern ps) = true
+is_ranged (range at least greatest) = nat_lt least greatest
+
+-- what a type's forbidden values keep where they stand in a layout: bytes below the greatest size, and ranges that rise
+abbrev pub are_sound : List Item → Bool
+are_sound its = are_items_below 1048576 its && list_all is_ranged its
+
+abbrev pub AreSound : List Item → Type 0
+AreSound its = IsTrue (are_sound its)
+
+abbrev pub items_step : ForbiddenValues-F (List Item) → List Item
+items_step ForbiddenValues-F.End = []
+items_step (ForbiddenValues-F.Array p) = pattern p ∷ []
+items_step (ForbiddenValues-F.ForbiddenRange least greatest at) = range at least greatest ∷ []
+items_step (ForbiddenValues-F.Or left right) = left.value ++ right.value
+
+-- the leaves from left to right, without those that forbid nothing
+abbrev pub items : ForbiddenValues → List Item
+items = fold-ForbiddenValues (List Item) items_step
+
+abbrev pub head_step : ForbiddenValues-F (Option (List Pair)) → Option (List Pair)
+head_step ForbiddenValues-F.End = None
+head_step (ForbiddenValues-F.Array p) = Some p
+head_step (ForbiddenValues-F.ForbiddenRange least greatest at) = Some ((at, least) ∷ [])
+head_step (ForbiddenValues-F.Or left right) = left.value
+
+-- what the very leftmost leaf offers
+abbrev pub head : ForbiddenValues → Option (List Pair)
+head = fold-ForbiddenValues (Option (List Pair)) head_step
+
+-- the patterns that the items offer, in order
+abbrev pub offered : List Item → List (List Pair)
+offered its = map offer its
+
+-- the pattern of a search's answer
+abbrev pub single : SingleForbiddenValue → Option (List Pair)
+single single_variant.Saturator = None
+single single_variant.End = None
+single (single_variant.Array p) = Some p

@@ -1,0 +1,3 @@
+pub mod Forbidden
+pub mod Mask
+pub mod Pairs
