@@ -1,6 +1,7 @@
 -- Forbidden values as a list of items from left to right, and what the leftmost leaf offers.
-use Rattle.std.specs.Prelude.{◌≡◌, ℕ, ◌+◌, ◌<◌, List, [], ◌∷◌, ◌++◌, Bool, true, false, ◌&&◌, nat_le, nat_lt, Option, Some, None, IsTrue, map}
+use Rattle.std.specs.Prelude.{◌≡◌, ℕ, ◌+◌, ◌<◌, List, [], ◌∷◌, ◌++◌, Bool, true, false, ◌&&◌, nat_le, nat_lt, ◌==◌, Option, Some, None, IsTrue, map}
 use Rattle.std.specs.List.{list_all, list_any}
+use Rattle.abi_bits.specs.Mask.{mask_at}
 use Rattle.abi_bits.specs.Pairs.{Pair, is_matched, moved_pairs, are_below}
 use Rattle.abi_bits.specs.declared.forbidden_values.ForbiddenValues.{ForbiddenValues, fold-ForbiddenValues}
 use Rattle.abi_bits.specs.declared.forbidden_values.ForbiddenValues.TheOpen.{ForbiddenValues-F}
@@ -74,3 +75,12 @@ abbrev pub single : SingleForbiddenValue → Option (List Pair)
 single single_variant.Saturator = None
 single single_variant.End = None
 single (single_variant.Array p) = Some p
+
+-- the byte lies below the size, and has no free bit
+abbrev pub is_solid_byte : ℕ → List Pair → ℕ → Bool
+is_solid_byte size free at = nat_lt at size && mask_at free at == 0
+
+-- every byte of the item is solid, and a range rises
+abbrev pub is_solid_item : ℕ → List Pair → Item → Bool
+is_solid_item size free (pattern ps) = list_all (λ p. is_solid_byte size free p.0) ps
+is_solid_item size free (range at least greatest) = is_solid_byte size free at && nat_lt least greatest
