@@ -1,8 +1,8 @@
 -- Forbidden values as a list of items from left to right, and what the leftmost leaf offers.
-use Rattle.std.specs.Prelude.{◌≡◌, ℕ, ◌+◌, ◌<◌, List, [], ◌∷◌, ◌++◌, Bool, true, false, ◌&&◌, nat_le, nat_lt, ◌==◌, Option, Some, None, IsTrue, map}
-use Rattle.std.specs.List.{list_all, list_any}
-use Rattle.abi_bits.specs.Mask.{mask_at}
+use Rattle.std.specs.Prelude.{ℕ, ◌+◌, List, [], ◌∷◌, ◌++◌, Bool, true, false, ◌&&◌, nat_le, nat_lt, ◌==◌, Option, Some, None, IsTrue, map}
+use Rattle.std.specs.List.{list_all}
 use Rattle.abi_bits.specs.Pairs.{Pair, is_matched, moved_pairs, are_below}
+use Rattle.abi_bits.specs.Mask.{mask_at}
 use Rattle.abi_bits.specs.declared.forbidden_values.ForbiddenValues.{ForbiddenValues, fold-ForbiddenValues}
 use Rattle.abi_bits.specs.declared.forbidden_values.ForbiddenValues.TheOpen.{ForbiddenValues-F}
 use Rattle.abi_bits.specs.declared.single_forbidden_value.SingleForbiddenValue.{SingleForbiddenValue}
@@ -46,6 +46,15 @@ are_sound its = are_items_below 1048576 its && list_all is_ranged its
 abbrev pub AreSound : List Item → Type 0
 AreSound its = IsTrue (are_sound its)
 
+-- the byte lies below the size and has no free bit
+abbrev pub is_solid_byte : ℕ → List Pair → ℕ → Bool
+is_solid_byte size free at = nat_lt at size && mask_at free at == 0
+
+-- a range that rises, or a pattern, in bytes below the size without a free bit
+abbrev pub is_solid_item : ℕ → List Pair → Item → Bool
+is_solid_item size free (pattern ps) = list_all (λ p. is_solid_byte size free p.0) ps
+is_solid_item size free (range at least greatest) = is_solid_byte size free at && nat_lt least greatest
+
 abbrev pub items_step : ForbiddenValues-F (List Item) → List Item
 items_step ForbiddenValues-F.End = []
 items_step (ForbiddenValues-F.Array p) = pattern p ∷ []
@@ -76,11 +85,32 @@ single single_variant.Saturator = None
 single single_variant.End = None
 single (single_variant.Array p) = Some p
 
--- the byte lies below the size, and has no free bit
-abbrev pub is_solid_byte : ℕ → List Pair → ℕ → Bool
-is_solid_byte size free at = nat_lt at size && mask_at free at == 0
+abbrev pub nothing_step : ForbiddenValues-F Bool → Bool
+nothing_step ForbiddenValues-F.End = true
+nothing_step (ForbiddenValues-F.Array p) = false
+nothing_step (ForbiddenValues-F.ForbiddenRange least greatest at) = false
+nothing_step (ForbiddenValues-F.Or left right) = false
 
--- every byte of the item is solid, and a range rises
-abbrev pub is_solid_item : ℕ → List Pair → Item → Bool
-is_solid_item size free (pattern ps) = list_all (λ p. is_solid_byte size free p.0) ps
-is_solid_item size free (range at least greatest) = is_solid_byte size free at && nat_lt least greatest
+-- nothing is forbidden, and it is written as such
+abbrev pub is_nothing : ForbiddenValues → Bool
+is_nothing = fold-ForbiddenValues Bool nothing_step
+
+abbrev pub one_range_step : ForbiddenValues-F Bool → Bool
+one_range_step ForbiddenValues-F.End = false
+one_range_step (ForbiddenValues-F.Array p) = false
+one_range_step (ForbiddenValues-F.ForbiddenRange least greatest at) = true
+one_range_step (ForbiddenValues-F.Or left right) = false
+
+-- one range and no more
+abbrev pub is_one_range : ForbiddenValues → Bool
+is_one_range = fold-ForbiddenValues Bool one_range_step
+
+abbrev pub last_step : ForbiddenValues-F Bool → Bool
+last_step ForbiddenValues-F.End = false
+last_step (ForbiddenValues-F.Array p) = true
+last_step (ForbiddenValues-F.ForbiddenRange least greatest at) = false
+last_step (ForbiddenValues-F.Or left right) = right.value
+
+-- the very rightmost leaf is a pattern
+abbrev pub ends_in_pattern : ForbiddenValues → Bool
+ends_in_pattern = fold-ForbiddenValues Bool last_step

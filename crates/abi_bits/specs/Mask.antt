@@ -1,5 +1,5 @@
 -- Masks: sets of bits. Bit k of the byte at offset i has the number 8 * i + k.
-use Rattle.std.specs.Prelude.{◌≡◌, ℕ, zero, suc, ◌+◌, ◌*◌, ◌/◌, ◌%◌, ◌^◌, ◌<◌, List, [], ◌∷◌, ◌++◌, Bool, true, false, ◌&&◌, not, nat_le, nat_lt, ◌==◌, IsTrue, Option, Some, None, bit_and, bit_or, bit_xor, if◌then◌else◌}
+use Rattle.std.specs.Prelude.{◌≡◌, ℕ, zero, suc, ◌/◌, ◌%◌, ◌^◌, ◌<◌, ◌≤◌, List, [], ◌∷◌, ◌++◌, Bool, ◌&&◌, nat_le, nat_lt, ◌==◌, IsTrue, Option, Some, None, bit_or, bit_xor, if◌then◌else◌}
 use Rattle.std.specs.List.{list_all}
 use Rattle.std.specs.Int.{bit_at, trailing_zeros, w8}
 use Rattle.abi_bits.specs.Pairs.{Pair, are_rising}
@@ -13,17 +13,34 @@ mask_at (e ∷ es) at = bit_or (if e.0 == at then e.1 else 0) (mask_at es at)
 abbrev pub Has : List Pair → ℕ → Type 0
 Has es n = bit_at (mask_at es (n / 8)) (n % 8) ≡ 1
 
+-- each mask has a bit of its byte
+abbrev pub have_bits : List Pair → Bool
+have_bits es = list_all (λ e. nat_lt 0 e.1 && nat_lt e.1 256) es
+
 -- entries: offsets rising and below the greatest size, each with a mask of some bits of its byte
 abbrev pub is_mask : List Pair → Bool
-is_mask es = are_rising 0 es && list_all (λ e. nat_lt 0 e.1 && nat_lt e.1 256) es
+is_mask es = are_rising 0 es && have_bits es
 
 abbrev pub IsMask : List Pair → Type 0
 IsMask es = IsTrue (is_mask es)
+
+-- the first byte from `from` on that has a bit; nothing where none has
+abbrev pub IsNext : List Pair → ℕ → Option Pair → Type 0
+IsNext es from None = (at : ℕ) → from ≤ at → mask_at es at ≡ 0
+IsNext es from (Some e) = (from ≤ e.0) × (0 < e.1) × (mask_at es e.0 ≡ e.1) × ((at : ℕ) → from ≤ at → at < e.0 → mask_at es at ≡ 0)
 
 -- the entries of the set whose byte at each offset below n has the bits that `bits` tells
 unfoldable pub entries_below : (ℕ → ℕ) → ℕ → List Pair
 entries_below bits zero = []
 entries_below bits (suc n) = entries_below bits n ++ (if bits n == 0 then [] else (n, bits n) ∷ [])
+
+-- all bits of the bytes from `from` up to `to`, none elsewhere
+abbrev pub full_between : ℕ → ℕ → ℕ → ℕ
+full_between from to at = if nat_le from at && nat_lt at to then 255 else 0
+
+-- every named byte is wholly in the set
+abbrev pub lies_free : List Pair → List Pair → Bool
+lies_free es ps = list_all (λ p. mask_at es p.0 == 255) ps
 
 -- the value in its byte of the lowest bit of a mask that is not 0
 abbrev pub lowest : ℕ → ℕ
@@ -33,6 +50,16 @@ lowest m = 2 ^ trailing_zeros w8 m
 abbrev pub least_bit : List Pair → Option Pair
 least_bit [] = None
 least_bit (e ∷ es) = Some (e.0, lowest e.1)
+
+-- what a bit is at each byte
+abbrev pub bit_byte : Option Pair → ℕ → ℕ
+bit_byte None at = 0
+bit_byte (Some b) at = if b.0 == at then b.1 else 0
+
+-- the entries of the set without its least bit
+abbrev pub without_least : List Pair → List Pair
+without_least [] = []
+without_least (e ∷ es) = (if bit_xor e.1 (lowest e.1) == 0 then [] else (e.0, bit_xor e.1 (lowest e.1)) ∷ []) ++ es
 
 -- a bit of the set that no other bit of it comes before
 pub record IsLeast (es : List Pair) (n : ℕ) : Type 0 where

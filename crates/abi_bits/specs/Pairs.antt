@@ -1,5 +1,5 @@
 -- Lists of pairs: an offset in bytes, and the mask or the value of the byte there.
-use Rattle.std.specs.Prelude.{◌≡◌, ℕ, ◌+◌, ◌<◌, List, [], ◌∷◌, Bool, true, false, ◌&&◌, not, nat_le, nat_lt, ◌==◌, IsTrue, map}
+use Rattle.std.specs.Prelude.{ℕ, ◌+◌, List, [], ◌∷◌, Bool, true, false, ◌&&◌, not, nat_le, nat_lt, ◌==◌, IsTrue, map}
 use Rattle.std.specs.List.{list_all}
 
 abbrev pub Pair : Type 0
@@ -32,3 +32,8 @@ moved_pairs by ps = map (λ p. (p.0 + by, p.1)) ps
 -- every offset lies below n
 abbrev pub are_below : ℕ → List Pair → Bool
 are_below n ps = list_all (λ p. nat_lt p.0 n) ps
+
+-- the offset of the first pair; the greatest size where there is none
+abbrev pub first_offset : List Pair → ℕ
+first_offset [] = 1048576
+first_offset (p ∷ ps) = p.0

@@ -3,17 +3,22 @@
 
 mod bit_mask;
 mod forbidden_values;
+pub mod laws;
+mod merge;
+mod pairs;
 mod pattern;
 mod saturating_add_value;
 mod single_forbidden_value;
+#[cfg(test)]
+mod tests;
 
+use abi_num::Items;
 pub use bit_mask::BitMask;
 pub use forbidden_values::ForbiddenValues;
+pub use pairs::are_rising;
 pub use pattern::Pattern;
 pub use saturating_add_value::SaturatingAddValue;
 pub use single_forbidden_value::SingleForbiddenValue;
-
-use abi_num::Items;
 
 /// The greatest size of anything laid out, in bytes; every offset lies below it.
 pub const MAX_SIZE: u64 = 1048576;

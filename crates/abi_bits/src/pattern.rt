@@ -1,12 +1,11 @@
-ghost use Rattle.std.specs.Prelude.{◌≡◌, ◌↔◌, ◌<◌, [], ◌∷◌, IsSome, IfSome, IfOk};
-ghost use Rattle.abi_bits.specs.Pairs.{are_rising, is_pattern, IsPattern};
+ghost use Rattle.std.specs.Prelude.{◌≡◌, ◌↔◌, ◌<◌, [], ◌∷◌, IsTrue, IsSome, IfSome, IfOk};
+ghost use Rattle.abi_bits.specs.Pairs.{is_pattern, IsPattern, are_below, moved_pairs, first_offset};
 
+use crate::Pairs;
+use crate::pairs::{are_rising, moved, with_front};
+use abi_num::{Items, OutOfMemory};
 use std::alloc::Global;
 use std::marker::Model;
-
-use abi_num::{Items, OutOfMemory};
-
-use crate::{MAX_SIZE, Pairs};
 
 /// A value of some bytes: a non-empty list of offsets in bytes, rising and below `MAX_SIZE`, each with
 /// the byte that stands there. Bytes match it where every named byte has its value.
@@ -57,6 +56,30 @@ impl Pattern {
         Ok(Pattern { pairs })
     }
 
+    /// The pattern with the value `byte` of the byte at `offset` in front, which lies before all of its bytes.
+    pub(crate) fn with_front(
+        &self,
+        alloc: Global,
+        offset: u64,
+        byte: u8,
+    ) -> Result<Pattern, OutOfMemory>
+        requires { offset < first_offset self.now }
+        ensures { IfOk result (λ pattern. pattern ≡ (offset, byte) ∷ self.now) }
+    {
+        let pairs = with_front(alloc, (offset, byte), self.pairs.as_slice())?;
+        Ok(Pattern { pairs })
+    }
+
+    /// The pattern `by` bytes further on.
+    #[tactic(auto, using(crate::proofs::Sets::moved_is_pattern))]
+    pub(crate) fn moved(&self, alloc: Global, by: u64) -> Result<Pattern, OutOfMemory>
+        requires { IsTrue (are_below 1048576 (moved_pairs by self.now)) }
+        ensures { IfOk result (λ pattern. pattern ≡ moved_pairs by self.now) }
+    {
+        let pairs = moved(alloc, self.pairs.as_slice(), by)?;
+        Ok(Pattern { pairs })
+    }
+
     /// An equal pattern.
     pub fn copy(&self, alloc: Global) -> Result<Pattern, OutOfMemory>
         ensures { IfOk result (λ pattern. pattern ≡ self.now) }
@@ -70,18 +93,4 @@ fn is_pattern(pairs: &[(u64, u8)]) -> bool
     ensures { result ≡ is_pattern pairs.now }
 {
     !pairs.is_empty() && are_rising(pairs)
-}
-
-/// Whether the offsets rise and lie below `MAX_SIZE`.
-pub fn are_rising(pairs: &[(u64, u8)]) -> bool
-    ensures { result ≡ are_rising 0 pairs.now }
-{
-    let mut least = 0;
-    for (offset, _) in pairs {
-        if *offset < least || *offset >= MAX_SIZE {
-            return false;
-        }
-        least = *offset + 1;
-    }
-    true
 }

@@ -7,7 +7,7 @@ use Rattle.abi_bits.specs.declared.saturating_add_value.SaturatingAddValue.TheVa
 use Rattle.abi_det.specs.Frame.{Frame}
 use Rattle.abi_det.specs.Offers.{One, offer_at, first_offer}
 use Rattle.abi_det.specs.Written.{written_placement, refusals_below}
-use Rattle.abi_det.specs.declared.placement.Kind.TheVariants as kind
+use Rattle.abi_det.specs.declared.placements.Kind.TheVariants as kind
 use Rattle.abi_det.specs.declared.determinant.Test.TheVariants as test
 
 plain : ℕ → ℕ → Frame
@@ -17,27 +17,41 @@ bool_frame : Frame
 bool_frame = record { size = 1; align = 1; free = []; forbids = range 0 2 255 ∷ []; head = Some ((0, 2) ∷ []); niches = count.Saturator; indirections = false }
 
 option_bool : written_placement One bool_frame (plain 0 1) ≡ record {
-    ok_shift = 0; err_shift = 0; place = 0; front = 0; kind = kind.LargerPattern;
-    determinant = record { «not» = false; test = test.ValueIsErr ((0, 2) ∷ []) };
-    exported = []; refusals = [];
-  }
+  ok_shift = 0;
+  err_shift = 0;
+  place = 0;
+  front = 0;
+  kind = kind.LargerPattern;
+  determinant = record { «not» = false; test = test.ValueIsErr ((0, 2) ∷ []) };
+  exported = [];
+  refusals = [];
+}
 unfolding written_placement first_offer offer_at entries_below refusals_below plain bool_frame
 option_bool = refl
 
 bytes : written_placement One (plain 1 1) (plain 1 1) ≡ record {
-    ok_shift = 0; err_shift = 0; place = 0; front = 1; kind = kind.Tag;
-    determinant = record { «not» = false; test = test.BitDeterminant };
-    exported = (0, 254) ∷ []; refusals = record { place = 0; smaller = []; larger = [] } ∷ [];
-  }
+  ok_shift = 0;
+  err_shift = 0;
+  place = 0;
+  front = 1;
+  kind = kind.Tag;
+  determinant = record { «not» = false; test = test.BitDeterminant };
+  exported = (0, 254) ∷ [];
+  refusals = record { place = 0; smaller = []; larger = [] } ∷ [];
+}
 unfolding written_placement first_offer offer_at entries_below refusals_below plain
 bytes = refl
 
 byte_and_pair : written_placement One (plain 1 1) (plain 2 2) ≡ record {
-    ok_shift = 0; err_shift = 0; place = 0; front = 2; kind = kind.Tag;
-    determinant = record { «not» = true; test = test.BitDeterminant };
-    exported = (0, 254) ∷ (1, 255) ∷ [];
-    refusals = record { place = 0; smaller = []; larger = [] } ∷ record { place = 1; smaller = []; larger = [] } ∷ [];
-  }
+  ok_shift = 0;
+  err_shift = 0;
+  place = 0;
+  front = 2;
+  kind = kind.Tag;
+  determinant = record { «not» = true; test = test.BitDeterminant };
+  exported = (0, 254) ∷ (1, 255) ∷ [];
+  refusals = record { place = 0; smaller = []; larger = [] } ∷ record { place = 1; smaller = []; larger = [] } ∷ [];
+}
 unfolding written_placement first_offer offer_at entries_below refusals_below plain
 byte_and_pair = refl
 
@@ -52,25 +66,40 @@ non_zero_byte : Frame
 non_zero_byte = record { size = 1; align = 1; free = []; forbids = pattern ((0, 0) ∷ []) ∷ []; head = Some ((0, 0) ∷ []); niches = count.B1; indirections = false }
 
 larger_pattern_first : written_placement One word_and_bool (plain 1 1) ≡ record {
-    ok_shift = 0; err_shift = 0; place = 0; front = 0; kind = kind.LargerPattern;
-    determinant = record { «not» = false; test = test.ValueIsErr ((4, 2) ∷ []) };
-    exported = (5, 255) ∷ (6, 255) ∷ (7, 255) ∷ []; refusals = [];
-  }
+  ok_shift = 0;
+  err_shift = 0;
+  place = 0;
+  front = 0;
+  kind = kind.LargerPattern;
+  determinant = record { «not» = false; test = test.ValueIsErr ((4, 2) ∷ []) };
+  exported = (5, 255) ∷ (6, 255) ∷ (7, 255) ∷ [];
+  refusals = [];
+}
 unfolding written_placement first_offer offer_at entries_below refusals_below plain word_and_bool
 larger_pattern_first = refl
 
 bit_before_later_pattern : written_placement One word_and_byte non_zero_byte ≡ record {
-    ok_shift = 0; err_shift = 0; place = 0; front = 0; kind = kind.SharedBit;
-    determinant = record { «not» = false; test = test.BitIsErr 5 1 };
-    exported = (5, 254) ∷ (6, 255) ∷ (7, 255) ∷ []; refusals = [];
-  }
+  ok_shift = 0;
+  err_shift = 0;
+  place = 0;
+  front = 0;
+  kind = kind.SharedBit;
+  determinant = record { «not» = false; test = test.BitIsErr 5 1 };
+  exported = (5, 254) ∷ (6, 255) ∷ (7, 255) ∷ [];
+  refusals = [];
+}
 unfolding written_placement first_offer offer_at entries_below refusals_below count_trailing_zeros word_and_byte non_zero_byte
 bit_before_later_pattern = refl
 
 second_place : written_placement One (record { size = 2; align = 1; free = (0, 254) ∷ []; forbids = []; head = None; niches = count.B0; indirections = false }) (plain 1 1) ≡ record {
-    ok_shift = 0; err_shift = 1; place = 1; front = 0; kind = kind.SharedBit;
-    determinant = record { «not» = false; test = test.BitIsErr 0 2 };
-    exported = (0, 252) ∷ []; refusals = [];
-  }
+  ok_shift = 0;
+  err_shift = 1;
+  place = 1;
+  front = 0;
+  kind = kind.SharedBit;
+  determinant = record { «not» = false; test = test.BitIsErr 0 2 };
+  exported = (0, 252) ∷ [];
+  refusals = [];
+}
 unfolding written_placement first_offer offer_at entries_below refusals_below count_trailing_zeros plain
 second_place = refl

@@ -1,6 +1,11 @@
 pub mod Frame
 pub mod FrameOf
+pub mod Laws
+pub mod Niches
 pub mod Offers
+pub mod Owed
+pub mod Refusals
 pub mod Roles
+pub mod Search
 pub mod State
 pub mod Written

@@ -5,8 +5,8 @@ use Rattle.abi_bits.specs.Mask.{entries_below, least_bit}
 use Rattle.abi_bits.specs.Forbidden.{offered}
 use Rattle.abi_det.specs.Frame.{Frame}
 use Rattle.abi_det.specs.Roles.{union_byte, lies_free, spare_byte, is_place}
-use Rattle.abi_det.specs.declared.placement.Kind.{Kind}
-use Rattle.abi_det.specs.declared.placement.Kind.TheVariants as kind
+use Rattle.abi_det.specs.declared.placements.Kind.{Kind}
+use Rattle.abi_det.specs.declared.placements.Kind.TheVariants as kind
 use Rattle.abi_det.specs.declared.determinant.Test.{Test}
 use Rattle.abi_det.specs.declared.determinant.Test.TheVariants as test
 
@@ -59,8 +59,8 @@ offer_at rules large small size k =
     if small.size == 0
     then or_else (by_pattern kind.LargerPattern (leading_pattern rules large)) (by_bit (shared_bit large small size 0))
     else or_else (by_pattern kind.SmallerPattern (smaller_pattern large small size (k * small.align)))
-        (or_else (by_pattern kind.LargerPattern (larger_pattern large small size (k * small.align)))
-            (by_bit (shared_bit large small size (k * small.align))))
+    (or_else (by_pattern kind.LargerPattern (larger_pattern large small size (k * small.align)))
+    (by_bit (shared_bit large small size (k * small.align))))
 
 abbrev pub numbered : ℕ → Option Niche → Option (ℕ × Niche)
 numbered k None = None
@@ -71,4 +71,4 @@ unfoldable pub first_offer : Rules → Frame → Frame → ℕ → ℕ → Optio
 first_offer rules large small size zero = None
 first_offer rules large small size (suc k) =
     or_else (first_offer rules large small size k)
-        (if is_place small size k then numbered k (offer_at rules large small size k) else None)
+    (if is_place small size k then numbered k (offer_at rules large small size k) else None)

@@ -8,10 +8,10 @@ use Rattle.abi_bits.specs.declared.saturating_add_value.SaturatingAddValue.TheVa
 use Rattle.abi_det.specs.Frame.{Frame}
 use Rattle.abi_det.specs.Roles.{ok_is_larger, larger, smaller, sum_align, union_size, is_place, union_byte, spare_byte}
 use Rattle.abi_det.specs.Offers.{Rules, Niche, first_offer, leading_pattern, shared_bit}
-use Rattle.abi_det.specs.declared.placement.Kind.{Kind}
-use Rattle.abi_det.specs.declared.placement.Kind.TheVariants as kind
-use Rattle.abi_det.specs.declared.placement.Placement.{Placement}
-use Rattle.abi_det.specs.declared.placement.Refusal.{Refusal}
+use Rattle.abi_det.specs.declared.placements.Kind.{Kind}
+use Rattle.abi_det.specs.declared.placements.Kind.TheVariants as kind
+use Rattle.abi_det.specs.declared.placements.Placement.{Placement}
+use Rattle.abi_det.specs.declared.placements.Refusal.{Refusal}
 use Rattle.abi_det.specs.declared.determinant.Test.{Test}
 use Rattle.abi_det.specs.declared.determinant.Test.TheVariants as test
 
@@ -56,9 +56,9 @@ abbrev pub refuses : Rules → Frame → Frame → ℕ → Refusal → Bool
 refuses rules large small size r =
     is_place small size r.place
     && (if small.size == 0
-        then is_none_named r.smaller && is_none_named r.larger && is_none (leading_pattern rules large)
-        else are_blocking (union_byte large 0 size) (map (moved_pairs (r.place * small.align)) (offered small.forbids)) r.smaller
-            && are_blocking (union_byte small (r.place * small.align) size) (offered large.forbids) r.larger)
+    then is_none_named r.smaller && is_none_named r.larger && is_none (leading_pattern rules large)
+    else are_blocking (union_byte large 0 size) (map (moved_pairs (r.place * small.align)) (offered small.forbids)) r.smaller
+    && are_blocking (union_byte small (r.place * small.align) size) (offered large.forbids) r.larger)
     && is_none (shared_bit large small size (r.place * small.align))
 
 -- the refusal holds for the sum of the two
@@ -84,28 +84,28 @@ beside_tag at = if at == 0 then 254 else 255
 
 abbrev pub tagged : Frame → Frame → Placement
 tagged ok err = record {
-    ok_shift = 0;
-    err_shift = 0;
-    place = 0;
-    front = sum_align ok err;
-    kind = kind.Tag;
-    determinant = record { «not» = means_ok kind.Tag (ok_is_larger ok err); test = test.BitDeterminant };
-    exported = entries_below beside_tag (sum_align ok err);
-    refusals = refusals_below (larger ok err) (smaller ok err) (union_size ok err) 8;
-  }
+  ok_shift = 0;
+  err_shift = 0;
+  place = 0;
+  front = sum_align ok err;
+  kind = kind.Tag;
+  determinant = record { «not» = means_ok kind.Tag (ok_is_larger ok err); test = test.BitDeterminant };
+  exported = entries_below beside_tag (sum_align ok err);
+  refusals = refusals_below (larger ok err) (smaller ok err) (union_size ok err) 8;
+}
 
 abbrev pub niched : Frame → Frame → ℕ → Niche → Placement
 niched ok err k niche =
     let shift : ℕ = k * (smaller ok err).align in record {
-    ok_shift = if ok_is_larger ok err then 0 else shift;
-    err_shift = if ok_is_larger ok err then shift else 0;
-    place = k;
-    front = 0;
-    kind = niche.kind;
-    determinant = record { «not» = means_ok niche.kind (ok_is_larger ok err); test = niche.test };
-    exported = entries_below (without niche.test (spare_byte (larger ok err) (smaller ok err) shift (union_size ok err))) (union_size ok err);
-    refusals = [];
-  }
+      ok_shift = if ok_is_larger ok err then 0 else shift;
+      err_shift = if ok_is_larger ok err then shift else 0;
+      place = k;
+      front = 0;
+      kind = niche.kind;
+      determinant = record { «not» = means_ok niche.kind (ok_is_larger ok err); test = niche.test };
+      exported = entries_below (without niche.test (spare_byte (larger ok err) (smaller ok err) shift (union_size ok err))) (union_size ok err);
+      refusals = [];
+    }
 
 abbrev pub placed : Frame → Frame → Option (ℕ × Niche) → Placement
 placed ok err None = tagged ok err
@@ -117,14 +117,14 @@ written_placement rules ok err = placed ok err (first_offer rules (larger ok err
 -- the frame of a sum with this placement
 abbrev pub sum_frame : Frame → Frame → Placement → Frame
 sum_frame ok err p = record {
-    size = union_size ok err + p.front;
-    align = sum_align ok err;
-    free = p.exported;
-    forbids = [];
-    head = None;
-    niches = count.B0;
-    indirections = ok.indirections || err.indirections;
-  }
+  size = union_size ok err + p.front;
+  align = sum_align ok err;
+  free = p.exported;
+  forbids = [];
+  head = None;
+  niches = count.B0;
+  indirections = ok.indirections || err.indirections;
+}
 
 unfoldable pub written_sum : Rules → Frame → Frame → Frame
 written_sum rules ok err = sum_frame ok err (written_placement rules ok err)

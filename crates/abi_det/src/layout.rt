@@ -1,13 +1,13 @@
-ghost use Rattle.std.specs.Prelude.{◌≡◌, ◌↔◌, IsTrue, IsSome, IfSome};
-
-use std::marker::Model;
-
-use abi_bits::{BitMask, ForbiddenValues, SaturatingAddValue};
+ghost use Rattle.std.specs.Prelude.{◌≡◌, ◌↔◌, ◌≤◌, ◌<◌, IsTrue, IsSome, IfSome, length, slice_index};
+ghost use Rattle.std.specs.List.{list_any};
 
 use crate::raw_layout::RawLayout;
+use abi_bits::{BitMask, ForbiddenValues, SaturatingAddValue};
+use std::marker::Model;
 
-/// A layout that keeps the rule of lawful layouts: a size that is a multiple of the alignment and at most
-/// `MAX_SIZE`, free bits and forbidden bytes below it, and no forbidden byte that has a free bit.
+/// A layout that keeps the rule of lawful layouts: an alignment that is a power of two up to 65,536, a size
+/// that is a multiple of it and at most `MAX_SIZE`, free bits and forbidden bytes below the size, ranges that
+/// rise, and no forbidden byte that has a free bit.
 #[derive(Debug, Drop)]
 pub struct Layout {
     raw: RawLayout,
@@ -28,13 +28,78 @@ impl Model for Layout {
 impl Layout {
     ghost use Rattle.abi_det.specs.Frame.{IsLawful};
     ghost use Rattle.abi_det.specs.FrameOf.{frame};
-    ghost use Rattle.abi_bits.specs.Forbidden.{items, head};
+    ghost use Rattle.abi_bits.specs.Mask.{IsMask};
+    ghost use Rattle.abi_bits.specs.Forbidden.{items, head, is_match, AreSound};
 
-    /// Size in bytes.
+    /// The layout of these parts; `None` exactly where they break the rule of lawful layouts.
+    pub fn new(raw: RawLayout) -> Option<Layout>
+        ensures lawful { IsSome result ↔ IsLawful (frame raw) }
+        ensures same { IfSome result (λ l. l ≡ frame raw) }
+    {
+        if raw.is_lawful() {
+            Some(Layout { raw })
+        } else {
+            None
+        }
+    }
+
+    /// Size in bytes, at most `MAX_SIZE`.
+    #[tactic(auto, using(crate::proofs::Lawful::size_bound))]
     pub fn size(&self) -> u64
         ensures same { result ≡ self.now.size }
+        ensures bound { result ≤ 1048576 }
         ensures lawful { IsLawful self.now }
     {
         self.raw.size
+    }
+
+    /// Alignment in bytes: a power of two, at most 65,536.
+    #[tactic(auto, using(crate::proofs::Lawful::align_bounds))]
+    pub fn align(&self) -> u64
+        ensures same { result ≡ self.now.align }
+        ensures positive { 0 < result }
+        ensures bound { result ≤ 65536 }
+        ensures lawful { IsLawful self.now }
+    {
+        self.raw.align
+    }
+
+    /// Values that the bytes never have.
+    pub fn forbidden(&self) -> &ForbiddenValues
+        ensures items { items result.now ≡ self.now.forbids }
+        ensures head { head result.now ≡ self.now.head }
+        ensures sound { AreSound (items result.now) }
+    {
+        &self.raw.forbidden
+    }
+
+    /// Bits that no value fixes: the free bits.
+    pub fn unused(&self) -> &BitMask
+        ensures same { result.now ≡ self.now.free }
+        ensures lawful { IsLawful self.now }
+    {
+        &self.raw.unused
+    }
+
+    /// How many niches are counted.
+    pub fn niches(&self) -> SaturatingAddValue
+        ensures { result ≡ self.now.niches }
+    {
+        self.raw.niches
+    }
+
+    /// Whether a value may lead to other memory.
+    pub fn indirections(&self) -> bool
+        ensures { result ≡ self.now.indirections }
+    {
+        self.raw.indirections
+    }
+
+    /// Whether bytes, at least as many as the size, have a value that is forbidden.
+    pub fn is_invalid(&self, bytes: &[u8]) -> bool
+        requires { self.now.size ≤ length bytes.now }
+        ensures { result ≡ list_any (is_match (slice_index bytes.now)) self.now.forbids }
+    {
+        self.raw.forbidden.is_invalid(bytes)
     }
 }

@@ -2,11 +2,20 @@
 #![tactic(auto)]
 
 mod determinant;
+mod exports;
+pub mod laws;
 mod layout;
-mod placement;
+mod placements;
 mod raw_layout;
+mod refusals;
+mod roles;
+mod search;
+mod spot;
+mod sum;
 
 pub use determinant::{Determinant, Test};
 pub use layout::Layout;
-pub use placement::{Kind, Placement, Refusal, Refusals};
+pub use placements::{Kind, Placement, Refusal, Refusals};
 pub use raw_layout::RawLayout;
+pub use refusals::check_refusal;
+pub use sum::{placement, sum_layout, sum_size};

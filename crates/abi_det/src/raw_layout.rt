@@ -1,4 +1,7 @@
-use abi_bits::{BitMask, ForbiddenValues, SaturatingAddValue};
+ghost use Rattle.std.specs.Prelude.{◌≡◌};
+
+use abi_bits::{BitMask, ForbiddenValues, MAX_SIZE, SaturatingAddValue};
+use abi_num::Alignment;
 
 /// What is known of a type's bytes, before it is checked to be lawful.
 #[derive(Debug, Drop)]
@@ -15,4 +18,20 @@ pub struct RawLayout {
     pub niches: SaturatingAddValue,
     /// Whether a value may lead to other memory.
     pub indirections: bool,
+}
+
+impl RawLayout {
+    ghost use Rattle.abi_det.specs.Frame.{is_lawful};
+    ghost use Rattle.abi_det.specs.FrameOf.{frame};
+
+    /// Whether the rule of lawful layouts holds.
+    pub(crate) fn is_lawful(&self) -> bool
+        ensures { result ≡ is_lawful (frame self.now) }
+    {
+        Alignment::new(self.align).is_some()
+            && self.size <= MAX_SIZE
+            && self.size % self.align == 0
+            && self.unused.is_below(self.size)
+            && self.forbidden.is_solid(self.size, &self.unused)
+    }
 }

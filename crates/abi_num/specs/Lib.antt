@@ -1,3 +1,5 @@
 pub mod Alignment
+pub mod Bits
 pub mod Target
+pub mod Unsigned
 pub mod formers

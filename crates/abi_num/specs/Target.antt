@@ -1,4 +1,4 @@
-use Rattle.std.specs.Prelude.{ℕ, List, [], ◌∷◌, Bool, true, false, ◌&&◌, ◌==◌, Option, Some, None, codes, if◌then◌else◌}
+use Rattle.std.specs.Prelude.{ℕ, List, [], ◌∷◌, Bool, true, false, cond, ◌&&◌, ◌==◌, Option, Some, None, codes, if◌then◌else◌}
 use Rattle.std.specs.List.{list_any}
 use Rattle.std.specs.Str.{bytes_eq}
 use Rattle.abi_num.specs.declared.target.Target.{Target}
@@ -35,3 +35,7 @@ same_target s t = same_bool s.little t.little && s.pointer == t.pointer && s.u64
 -- some row has these four fields
 abbrev pub is_row : Target → Bool
 is_row t = list_any (λ row. same_target row.1 t) target_rows
+
+-- the eight bytes that tell an architecture: pointers in four roles, the alignment of u128, and 1 for big endian
+abbrev pub arch_info : Target → List ℕ
+arch_info t = 0 ∷ t.pointer ∷ t.pointer ∷ t.pointer ∷ t.pointer ∷ t.u128_align ∷ cond t.little 0 1 ∷ 0 ∷ []

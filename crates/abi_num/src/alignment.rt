@@ -1,4 +1,4 @@
-ghost use Rattle.std.specs.Prelude.{◌≡◌, ◌↔◌, IsSome, IfSome};
+ghost use Rattle.std.specs.Prelude.{◌≡◌, ◌^◌, ◌↔◌, min, max, IsSome, IfSome};
 ghost use Rattle.abi_num.specs.Alignment.{IsAlignment};
 
 use std::marker::Model;
@@ -44,5 +44,50 @@ impl Alignment {
         ensures alignment { IsAlignment result }
     {
         self.bytes
+    }
+
+    /// The larger one.
+    pub fn max(self, other: Alignment) -> Alignment
+        ensures { result ≡ max self other }
+    {
+        if self.bytes < other.bytes {
+            other
+        } else {
+            self
+        }
+    }
+
+    /// The smaller one.
+    pub fn min(self, other: Alignment) -> Alignment
+        ensures { result ≡ min self other }
+    {
+        if other.bytes < self.bytes {
+            other
+        } else {
+            self
+        }
+    }
+
+    /// The exponent: the alignment is 2 to its power.
+    #[tactic(auto, using(crate::proofs::Powers::power_between))]
+    pub fn log2(self) -> u32
+        ensures { 2 ^ result ≡ self }
+    {
+        self.bytes.ilog2()
+    }
+}
+
+#[cfg(test)]
+mod tests {
+    use super::*;
+    use std::test::Fail;
+
+    #[test]
+    fn eight_and_sixty_four_compare_and_have_their_exponents(rt: HostRuntime) -> Result<(), Fail> {
+        let eight = Alignment::new(8).ok_or("8")?;
+        let larger = Alignment::new(64).ok_or("64")?;
+        assert_eq!(rt; (eight.max(larger), larger.min(eight)), (larger, eight));
+        assert_eq!(rt; (eight.log2(), larger.log2()), (3, 6));
+        Ok(())
     }
 }

@@ -2,10 +2,12 @@
 #![tactic(auto)]
 
 mod alignment;
+pub mod bits;
 mod items;
 mod out_of_memory;
 mod target;
 mod text;
+pub mod unsigned;
 
 pub use alignment::Alignment;
 pub use items::Items;

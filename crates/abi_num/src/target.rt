@@ -1,4 +1,4 @@
-ghost use Rattle.std.specs.Prelude.{◌≡◌};
+ghost use Rattle.std.specs.Prelude.{◌≡◌, IsTrue};
 
 /// The platform that a layout is for: byte order, and sizes and alignments in bytes.
 #[derive(Debug, Clone, Copy, PartialEq, Eq)]
@@ -14,7 +14,7 @@ pub struct Target {
 }
 
 impl Target {
-    ghost use Rattle.abi_num.specs.Target.{named, is_row};
+    ghost use Rattle.abi_num.specs.Target.{named, is_row, arch_info};
 
     /// The supported target of that name; `None` exactly where no target has it.
     pub fn named(name: &str) -> Option<Target>
@@ -47,6 +47,17 @@ impl Target {
                 | (true, 2, 4, 8)
         )
     }
+
+    /// The eight bytes that tell this target's architecture; the target must be a supported one.
+    pub fn arch_info(&self) -> [u8; 8]
+        requires { IsTrue (is_row self.now) }
+        ensures { result ≡ arch_info self.now }
+    {
+        let pointer = self.pointer as u8;
+        let big = if self.little { 0 } else { 1 };
+        let u128_align = self.u128_align as u8;
+        [0, pointer, pointer, pointer, pointer, u128_align, big, 0]
+    }
 }
 
 fn row(little: bool, pointer: u64, u64_align: u64, u128_align: u64) -> Target
@@ -57,5 +68,20 @@ fn row(little: bool, pointer: u64, u64_align: u64, u128_align: u64) -> Target
         pointer,
         u64_align,
         u128_align,
+    }
+}
+
+#[cfg(test)]
+mod tests {
+    use super::*;
+
+    #[test]
+    fn the_architecture_bytes_of_le64_and_be32(rt: HostRuntime) {
+        let le64 = row(true, 8, 8, 16);
+        assert!(rt; le64.is_row());
+        assert_eq!(rt; le64.arch_info(), [0, 8, 8, 8, 8, 16, 0, 0]);
+        let be32 = row(false, 4, 8, 8);
+        assert!(rt; be32.is_row());
+        assert_eq!(rt; be32.arch_info(), [0, 4, 4, 4, 4, 8, 1, 0]);
     }
 }

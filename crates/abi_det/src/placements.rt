@@ -1,7 +1,6 @@
+use crate::determinant::Determinant;
 use abi_bits::{BitMask, Offsets};
 use abi_num::Items;
-
-use crate::determinant::Determinant;
 
 /// Where a sum's variants stand, and what tells them apart.
 #[derive(Debug, Drop)]

@@ -1,0 +1,5 @@
+use Rattle.abi_det.proofs.Chosen.{sound_sum}
+use Rattle.abi_det.proofs.laws.sum_is_sound.Goals as goal
+
+pub returns : goal.returns
+returns c = sound_sum

@@ -1,0 +1,11 @@
+use Rattle.std.proofs.Common.{◌≡◌, IsTrue, drop}
+use Rattle.abi_bits.specs.Pairs.{are_below, moved_pairs}
+use Rattle.abi_det.specs.Roles.{union_byte, lies_free}
+use Rattle.abi_det.specs.Written.{first_blocking}
+use Rattle.abi_det.proofs.spot.Spot.first_blocking.Given as goal
+
+abbrev pub invariant-loop-offset : goal.invariant-loop-offset
+invariant-loop-offset l =
+    (first_blocking (union_byte l.self.layout.now l.self.shift l.self.size) (moved_pairs l.by (drop l.offset-index l.pairs))
+    ≡ first_blocking (union_byte l.self.layout.now l.self.shift l.self.size) (moved_pairs l.by l.pairs))
+    × IsTrue (are_below 1048576 (drop l.offset-index l.pairs))

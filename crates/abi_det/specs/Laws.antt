@@ -1,0 +1,59 @@
+-- Laws over the definitions of sums, each in the words of its subject.
+use Rattle.std.specs.Prelude.{◌≡◌, ◌≢◌, ◌↔◌, ℕ, ◌+◌, ◌<◌, ◌≤◌, List, [], true, false}
+use Rattle.abi_bits.specs.Pairs.{Pair}
+use Rattle.abi_bits.specs.Mask.{IsMask}
+use Rattle.abi_det.specs.Frame.{Frame, IsLawful}
+use Rattle.abi_det.specs.Roles.{larger, smaller, is_place, lies_free, union_size}
+use Rattle.abi_det.specs.Offers.{Rules}
+use Rattle.abi_det.specs.Niches.{IsFirstBelow, taken}
+use Rattle.abi_det.specs.Refusals.{AllRefuse, AreComplete, IsFirstBlocking}
+use Rattle.abi_det.specs.Written.{first_blocking, written_placement, written_sum}
+use Rattle.abi_det.specs.Owed.{IsSound, IsOwed}
+use Rattle.abi_det.specs.declared.placements.Kind.TheVariants as kind
+use Rattle.abi_det.specs.declared.placements.Placement.{Placement}
+
+-- the union of two lawful frames is no larger than a layout may be
+abbrev pub UnionLaw : Type 0
+UnionLaw = (ok err : Frame) → IsLawful ok → IsLawful err → union_size ok err ≤ 1048576
+
+-- the frame of a sum is lawful
+abbrev pub LawfulSumLaw : Type 0
+LawfulSumLaw =
+    (rules : Rules) (ok err : Frame) → IsLawful ok → IsLawful err → union_size ok err + (written_placement rules ok err).front ≤ 1048576
+    → IsLawful (written_sum rules ok err)
+
+-- and keeps what frames keep
+abbrev pub SoundSumLaw : Type 0
+SoundSumLaw =
+    (rules : Rules) (ok err : Frame) → IsSound ok → IsSound err → union_size ok err + (written_placement rules ok err).front ≤ 1048576
+    → IsSound (written_sum rules ok err)
+
+-- every placement gives both variants what it owes them
+abbrev pub OwedLaw : Type 0
+OwedLaw = (rules : Rules) (ok err : Frame) → IsSound ok → IsSound err → IsOwed ok err (written_placement rules ok err)
+
+-- a place is one of eight
+abbrev pub PlaceLaw : Type 0
+PlaceLaw = (small : Frame) (size k : ℕ) → is_place small size k ≡ true → k < 8
+
+-- the written placement takes the first niche of the first existing place that offers one, and a tag where none does
+abbrev pub PlacementLaw : Type 0
+PlacementLaw =
+    (rules : Rules) (ok err : Frame) → IsMask ok.free → IsMask err.free
+    → IsFirstBelow rules (larger ok err) (smaller ok err) (union_size ok err) 8 (taken (written_placement rules ok err))
+
+-- all existing places have a refusal that holds exactly where the written placement is a tag
+abbrev pub RefusedLaw : Type 0
+RefusedLaw =
+    (rules : Rules) (ok err : Frame) → IsMask ok.free → IsMask err.free
+    → ((written_placement rules ok err).kind ≡ kind.Tag) ↔ AllRefuse rules ok err
+
+-- with a tag, and only with one, there are refusals: one that holds for each existing place, by rising place
+abbrev pub RefusalsLaw : Type 0
+RefusalsLaw =
+    (rules : Rules) (ok err : Frame) → IsMask ok.free → IsMask err.free → let p : Placement = written_placement rules ok err in
+    (p.kind ≡ kind.Tag → AreComplete rules ok err p.refusals) × (p.kind ≢ kind.Tag → p.refusals ≡ [])
+
+-- a written refusal names of each pattern the first byte that is not wholly free
+abbrev pub BlockingLaw : Type 0
+BlockingLaw = (free : ℕ → ℕ) (ps : List Pair) → lies_free free ps ≡ false → IsFirstBlocking free ps (first_blocking free ps)

@@ -1,0 +1,61 @@
+//! Laws over the definitions that the contracts of this crate cite. No function here does anything: its
+//! contract is the law.
+
+ghost use Rattle.abi_det.specs.Laws.{
+    UnionLaw, PlaceLaw, PlacementLaw, OwedLaw, LawfulSumLaw, SoundSumLaw, RefusedLaw, RefusalsLaw, BlockingLaw
+};
+
+/// The union of the variants of a sum is no larger than a layout may be.
+#[tactic(auto, using(crate::proofs::Sizes::union_small))]
+pub fn union_fits()
+    ensures { UnionLaw }
+{}
+
+/// There are at most eight places.
+#[tactic(auto, using(crate::proofs::Chosen::place_below))]
+pub fn places_are_eight()
+    ensures { PlaceLaw }
+{}
+
+/// The written placement takes the least existing place that offers a niche, there the first kind, and of that
+/// kind the first pattern or the least bit; where no existing place offers one, a tag.
+#[tactic(auto, using(crate::proofs::Chosen::placement_first))]
+pub fn placement_takes_the_first_niche()
+    ensures { PlacementLaw }
+{}
+
+/// A placement gives both variants what it owes them: each stands inside the sum, the test takes only bits
+/// that it leaves free or a pattern that it never has, and no exported bit is one of its own or of the test's.
+#[tactic(auto, using(crate::proofs::Owed::owed))]
+pub fn placement_gives_what_it_owes()
+    ensures { OwedLaw }
+{}
+
+/// The frame of a sum is lawful.
+#[tactic(auto, using(crate::proofs::Sums::lawful_sum))]
+pub fn sum_is_lawful()
+    ensures { LawfulSumLaw }
+{}
+
+/// The frame of a sum keeps what the frame of every layout keeps.
+pub fn sum_is_sound()
+    ensures { SoundSumLaw }
+{}
+
+/// All existing places have a refusal that holds exactly where the written placement is a tag.
+#[tactic(auto, using(crate::proofs::Refusing::refused))]
+pub fn places_refuse_where_there_is_a_tag()
+    ensures { RefusedLaw }
+{}
+
+/// The refusals of a tag hold, and are one for each existing place by rising place; other placements have none.
+#[tactic(auto, using(crate::proofs::Refusing::complete))]
+pub fn refusals_are_complete()
+    ensures { RefusalsLaw }
+{}
+
+/// A written refusal names, of each pattern, the first byte that is not wholly free.
+#[tactic(auto, using(crate::proofs::Refusing::first_is_first))]
+pub fn refusals_name_the_first_byte()
+    ensures { BlockingLaw }
+{}

@@ -1,0 +1,268 @@
+ghost use Rattle.std.specs.Prelude.{◌≡◌, ◌≤◌, ◌<◌, ◌*◌, IsTrue, IfOk, IfSome, option_map};
+ghost use Rattle.std.specs.List.{find};
+ghost use Rattle.abi_bits.specs.Pairs.{moved_pairs};
+ghost use Rattle.abi_bits.specs.Mask.{lowest};
+ghost use Rattle.abi_bits.specs.Forbidden.{offered};
+ghost use Rattle.abi_det.specs.Roles.{union_byte, spare_byte, is_place};
+ghost use Rattle.abi_det.specs.Offers.{One, by_pattern, by_bit, or_else, leading_pattern, smaller_pattern, larger_pattern, shared_bit, offer_at, first_offer};
+ghost use Rattle.abi_det.specs.Search.{IsNextBelow};
+
+use crate::determinant::Test;
+use crate::placements::Kind;
+use crate::roles::{PLACES, Roles};
+use crate::spot::Spot;
+use abi_bits::{Patterns, SingleForbiddenValue};
+use abi_num::OutOfMemory;
+use std::alloc::Global;
+
+/// A niche that a place offers, and the test that finds it.
+#[derive(Drop)]
+pub(crate) struct Found {
+    pub(crate) kind: Kind,
+    pub(crate) test: Test,
+}
+
+/// The patterns that the two variants offer, in order.
+#[derive(Drop)]
+pub(crate) struct Offered {
+    pub(crate) larger: Patterns,
+    pub(crate) smaller: Patterns,
+}
+
+impl<'a> Roles<'a> {
+    ghost use Rattle.abi_det.specs.Search.{niche_of, IsSpared};
+
+    /// The patterns that the two variants offer.
+    pub(crate) fn offered(&self, alloc: Global) -> Result<Offered, OutOfMemory>
+        ensures larger { IfOk result (λ o. o.larger ≡ offered self.now.large.now.forbids) }
+        ensures smaller { IfOk result (λ o. o.smaller ≡ offered self.now.small.now.forbids) }
+    {
+        let larger = self.large.forbidden().patterns(alloc)?;
+        let smaller = self.small.forbidden().patterns(alloc)?;
+        Ok(Offered { larger, smaller })
+    }
+
+    /// The larger variant at its place.
+    pub(crate) fn large_spot(&self) -> Spot<'a>
+        ensures layout { result.layout.now ≡ self.now.large.now }
+        ensures shift { result.shift ≡ 0 }
+        ensures size { result.size ≡ self.now.size }
+    {
+        Spot {
+            layout: self.large,
+            shift: 0,
+            size: self.size,
+        }
+    }
+
+    /// The smaller variant at a place that starts at `shift`.
+    pub(crate) fn small_spot(&self, shift: u64) -> Spot<'a>
+        ensures layout { result.layout.now ≡ self.now.small.now }
+        ensures shift { result.shift ≡ shift }
+        ensures size { result.size ≡ self.now.size }
+    {
+        Spot {
+            layout: self.small,
+            shift,
+            size: self.size,
+        }
+    }
+
+    /// The first byte of the union, at the offset `from` or past it, in which the larger variant leaves bits
+    /// free, and these bits.
+    #[tactic(auto, using(crate::proofs::Next::next_own, crate::proofs::Next::next_beside, crate::proofs::Next::next_none))]
+    fn next_free(&self, from: u64) -> Option<(u64, u8)>
+        ensures { IsNextBelow (union_byte self.now.large.now 0 self.now.size) self.now.size from result }
+    {
+        if let Some(entry) = self.large.unused().next_entry(from) {
+            return Some(entry);
+        }
+        let at = from.max(self.large.size());
+        if at < self.size {
+            Some((at, 255))
+        } else {
+            None
+        }
+    }
+
+    /// The first byte of the union, at the offset `from` or past it, in which both variants leave bits free,
+    /// and these bits. An empty smaller variant leaves all to the larger's own.
+    #[tactic(auto, using(crate::proofs::Next::next_empty))]
+    pub(crate) fn next_spare(&self, shift: u64, from: u64) -> Option<(u64, u8)>
+        ensures { IsNextBelow (spare_byte self.now.large.now self.now.small.now shift self.now.size) self.now.size from result }
+    {
+        if self.small.size() == 0 {
+            self.large.unused().next_entry(from)
+        } else {
+            self.next_shared(shift, from)
+        }
+    }
+
+    #[tactic(auto, using(crate::proofs::Next::spare_none, crate::proofs::Next::spare_is))]
+    fn next_shared(&self, shift: u64, from: u64) -> Option<(u64, u8)>
+        requires { 0 < self.now.small.now.size }
+        ensures { IsNextBelow (spare_byte self.now.large.now self.now.small.now shift self.now.size) self.now.size from result }
+    {
+        let small = self.small_spot(shift);
+        let mut at = from;
+        while let Some((next, byte)) = self.next_free(at) {
+            let both = byte & small.byte_at(next);
+            if both != 0 {
+                return Some((next, both));
+            }
+            at = next + 1;
+        }
+        None
+    }
+
+    /// The least bit that both variants leave free.
+    #[tactic(auto, using(crate::proofs::Entries::bit_found, crate::proofs::Entries::no_bit_found))]
+    fn shared_bit(&self, shift: u64) -> Option<Found>
+        ensures same { option_map niche_of result ≡ by_bit (shared_bit self.now.large.now self.now.small.now self.now.size shift) }
+        ensures spared { IfSome result (λ f. IsSpared (spare_byte self.now.large.now self.now.small.now shift self.now.size) f.test) }
+    {
+        match self.next_spare(shift, 0) {
+            Some((offset, byte)) => Some(Found {
+                kind: Kind::SharedBit,
+                test: Test::BitIsErr {
+                    offset,
+                    mask: lowest(byte),
+                },
+            }),
+            None => None,
+        }
+    }
+}
+
+impl Roles<'_> {
+    ghost use Rattle.abi_det.specs.Search.{niche_of, IsSpared};
+
+    /// What place 0 of an empty smaller variant offers.
+    fn offer_to_empty(&self, alloc: Global) -> Result<Option<Found>, OutOfMemory>
+        ensures same { IfOk result (λ found. option_map niche_of found
+            ≡ or_else (by_pattern Kind.LargerPattern (leading_pattern One self.now.large.now)) (by_bit (shared_bit self.now.large.now self.now.small.now self.now.size 0))) }
+        ensures spared { IfOk result (λ found. IfSome found (λ f. IsSpared (spare_byte self.now.large.now self.now.small.now 0 self.now.size) f.test)) }
+    {
+        match self.large.forbidden().select_one(alloc)? {
+            SingleForbiddenValue::Array(pattern) => Ok(Some(Found {
+                kind: Kind::LargerPattern,
+                test: Test::ValueIsErr(pattern),
+            })),
+            SingleForbiddenValue::End => Ok(self.shared_bit(0)),
+            SingleForbiddenValue::Saturator => Ok(self.shared_bit(0)),
+        }
+    }
+
+    /// What a place that starts at `shift` offers besides the smaller variant's patterns.
+    #[tactic(auto, using(crate::proofs::Moving::all_moved_by_none))]
+    fn larger_or_bit(
+        &self,
+        alloc: Global,
+        patterns: &Offered,
+        shift: u64,
+    ) -> Result<Option<Found>, OutOfMemory>
+        requires { patterns.now.larger ≡ offered self.now.large.now.forbids }
+        ensures same { IfOk result (λ found. option_map niche_of found
+            ≡ or_else (by_pattern Kind.LargerPattern (larger_pattern self.now.large.now self.now.small.now self.now.size shift))
+            (by_bit (shared_bit self.now.large.now self.now.small.now self.now.size shift))) }
+        ensures spared { IfOk result (λ found. IfSome found (λ f. IsSpared (spare_byte self.now.large.now self.now.small.now shift self.now.size) f.test)) }
+    {
+        match self
+            .small_spot(shift)
+            .first_free(alloc, patterns.larger.as_slice(), 0)?
+        {
+            Some(pattern) => Ok(Some(Found {
+                kind: Kind::LargerPattern,
+                test: Test::ValueIsErr(pattern),
+            })),
+            None => Ok(self.shared_bit(shift)),
+        }
+    }
+
+    /// What a place that starts at `shift` offers, where the smaller variant is not empty.
+    fn offer_beside(
+        &self,
+        alloc: Global,
+        patterns: &Offered,
+        shift: u64,
+    ) -> Result<Option<Found>, OutOfMemory>
+        requires larger { patterns.now.larger ≡ offered self.now.large.now.forbids }
+        requires smaller { patterns.now.smaller ≡ offered self.now.small.now.forbids }
+        requires near { shift ≤ 1048576 }
+        ensures same { IfOk result (λ found. option_map niche_of found
+            ≡ or_else (by_pattern Kind.SmallerPattern (smaller_pattern self.now.large.now self.now.small.now self.now.size shift))
+            (or_else (by_pattern Kind.LargerPattern (larger_pattern self.now.large.now self.now.small.now self.now.size shift))
+            (by_bit (shared_bit self.now.large.now self.now.small.now self.now.size shift)))) }
+        ensures spared { IfOk result (λ found. IfSome found (λ f. IsSpared (spare_byte self.now.large.now self.now.small.now shift self.now.size) f.test)) }
+    {
+        match self
+            .large_spot()
+            .first_free(alloc, patterns.smaller.as_slice(), shift)?
+        {
+            Some(pattern) => Ok(Some(Found {
+                kind: Kind::SmallerPattern,
+                test: Test::ValueIsErr(pattern),
+            })),
+            None => {
+                let found = self.larger_or_bit(alloc, patterns, shift)?;
+                Ok(found)
+            }
+        }
+    }
+
+    /// What a place offers.
+    #[tactic(auto, using(crate::proofs::Places::shift_of_empty), unfolding(crate::specs::Offers::offer_at))]
+    fn offer_at(
+        &self,
+        alloc: Global,
+        patterns: &Offered,
+        place: u64,
+    ) -> Result<Option<Found>, OutOfMemory>
+        requires larger { patterns.now.larger ≡ offered self.now.large.now.forbids }
+        requires smaller { patterns.now.smaller ≡ offered self.now.small.now.forbids }
+        requires exists { IsTrue (is_place self.now.small.now self.now.size place) }
+        ensures same { IfOk result (λ found. option_map niche_of found ≡ offer_at One self.now.large.now self.now.small.now self.now.size place) }
+        ensures spared { IfOk result (λ found. IfSome found (λ f.
+            IsSpared (spare_byte self.now.large.now self.now.small.now (place * self.now.small.now.align) self.now.size) f.test)) }
+    {
+        if self.small.size() == 0 {
+            let found = self.offer_to_empty(alloc)?;
+            Ok(found)
+        } else {
+            let found = self.offer_beside(alloc, patterns, self.shift(place))?;
+            Ok(found)
+        }
+    }
+
+    /// The first place that offers a niche, and the niche.
+    #[tactic(auto, using(crate::proofs::Places::none_at_start, crate::proofs::Places::first_found, crate::proofs::Places::none_where_no_place, crate::proofs::Places::none_where_no_offer))]
+    pub(crate) fn first_offer(
+        &self,
+        alloc: Global,
+        patterns: &Offered,
+    ) -> Result<Option<(u64, Found)>, OutOfMemory>
+        requires larger { patterns.now.larger ≡ offered self.now.large.now.forbids }
+        requires smaller { patterns.now.smaller ≡ offered self.now.small.now.forbids }
+        ensures same { IfOk result (λ found. option_map (λ f. (f.0, niche_of f.1)) found ≡ first_offer One self.now.large.now self.now.small.now self.now.size 8) }
+        ensures exists { IfOk result (λ found. IfSome found (λ f. IsTrue (is_place self.now.small.now self.now.size f.0))) }
+        ensures spared { IfOk result (λ found. IfSome found (λ f.
+            IsSpared (spare_byte self.now.large.now self.now.small.now (f.0 * self.now.small.now.align) self.now.size) f.1.test)) }
+    {
+        for place in 0..PLACES {
+            if self.has_place(place) {
+                if let Some(found) = self.offer_at(alloc, patterns, place)? {
+                    return Ok(Some((place, found)));
+                }
+            }
+        }
+        Ok(None)
+    }
+}
+
+/// The value of the lowest bit of a byte that is not 0.
+fn lowest(byte: u8) -> u8
+    requires { 0 < byte }
+    ensures { result ≡ lowest byte }
+{
+    1 << byte.trailing_zeros()
+}

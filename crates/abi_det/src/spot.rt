@@ -1,0 +1,218 @@
+ghost use Rattle.std.specs.Prelude.{◌≡◌, ◌≤◌, ◌<◌, IsTrue, IfOk, map, option_map, ◌+◌, [], ◌∷◌, ◌==◌};
+ghost use Rattle.std.specs.List.{find, list_any};
+ghost use Rattle.abi_bits.specs.Pairs.{are_below, moved_pairs};
+ghost use Rattle.abi_det.specs.Roles.{union_byte, lies_free};
+ghost use Rattle.abi_bits.specs.Forbidden.{items, offered};
+ghost use Rattle.abi_det.specs.Written.{first_blocking, is_blocking, are_blocking};
+ghost use Rattle.abi_det.specs.Search.{after_blocking};
+
+use crate::layout::Layout;
+use abi_bits::{ForbiddenValues, Offsets, Pattern};
+use abi_num::{Items, OutOfMemory};
+use std::alloc::Global;
+
+/// A variant at its place in a union of `size` bytes.
+#[derive(Drop)]
+pub(crate) struct Spot<'a> {
+    pub(crate) layout: &'a Layout,
+    /// Where the variant starts, in bytes.
+    pub(crate) shift: u64,
+    pub(crate) size: u64,
+    ghost within: { size ≤ 1048576 },
+}
+
+impl Spot<'_> {
+    /// The bits of a byte of the union that the variant leaves free.
+    pub(crate) fn byte_at(&self, at: u64) -> u8
+        ensures { result ≡ union_byte self.now.layout.now self.now.shift self.now.size at }
+    {
+        if at < self.size {
+            if at < self.shift {
+                255
+            } else if at - self.shift < self.layout.size() {
+                self.layout.unused().byte_at(at - self.shift)
+            } else {
+                255
+            }
+        } else {
+            0
+        }
+    }
+
+    /// Whether the pattern, moved by that many bytes, lies in bytes that the variant leaves wholly free.
+    pub(crate) fn lies_free(&self, pairs: &[(u64, u8)], by: u64) -> bool
+        requires below { IsTrue (are_below 1048576 pairs.now) }
+        requires near { by ≤ 1048576 }
+        ensures { result ≡ lies_free (union_byte self.now.layout.now self.now.shift self.now.size) (moved_pairs by pairs.now) }
+    {
+        for (offset, _) in pairs {
+            if self.byte_at(*offset + by) != 255 {
+                return false;
+            }
+        }
+        true
+    }
+
+    /// The first of the patterns, moved by that many bytes, that lies in bytes which the variant leaves
+    /// wholly free.
+    #[tactic(auto, using(crate::proofs::Moving::pattern_below))]
+    pub(crate) fn first_free(
+        &self,
+        alloc: Global,
+        patterns: &[Pattern],
+        by: u64,
+    ) -> Result<Option<Pattern>, OutOfMemory>
+        requires { by ≤ 1048576 }
+        ensures { IfOk result (λ found. found ≡ find (lies_free (union_byte self.now.layout.now self.now.shift self.now.size)) (map (moved_pairs by) patterns.now)) }
+    {
+        for pattern in patterns {
+            if self.lies_free(pattern.pairs(), by) {
+                let pattern = moved(alloc, pattern, by)?;
+                return Ok(Some(pattern));
+            }
+        }
+        Ok(None)
+    }
+
+    /// The first byte of the pattern, moved by that many bytes, that the variant does not leave wholly free;
+    /// 0 where there is none.
+    fn first_blocking(&self, pairs: &[(u64, u8)], by: u64) -> u64
+        requires below { IsTrue (are_below 1048576 pairs.now) }
+        requires near { by ≤ 1048576 }
+        ensures { result ≡ first_blocking (union_byte self.now.layout.now self.now.shift self.now.size) (moved_pairs by pairs.now) }
+    {
+        for (offset, _) in pairs {
+            if self.byte_at(*offset + by) != 255 {
+                return *offset + by;
+            }
+        }
+        0
+    }
+
+    /// For each of the patterns, moved by that many bytes, the first byte that the variant does not leave
+    /// wholly free.
+    #[tactic(auto, using(crate::proofs::Moving::pattern_below))]
+    pub(crate) fn blocking(
+        &self,
+        alloc: Global,
+        patterns: &[Pattern],
+        by: u64,
+    ) -> Result<Offsets, OutOfMemory>
+        requires { by ≤ 1048576 }
+        ensures { IfOk result (λ offsets. offsets ≡ map (first_blocking (union_byte self.now.layout.now self.now.shift self.now.size)) (map (moved_pairs by) patterns.now)) }
+    {
+        let mut offsets = Items::new(alloc);
+        for pattern in patterns {
+            offsets.push(self.first_blocking(pattern.pairs(), by))?;
+        }
+        Ok(offsets)
+    }
+}
+
+impl Spot<'_> {
+    /// Whether the byte of the union at offset `at` is one of the pattern's, moved by that many bytes, and the
+    /// variant does not leave it wholly free.
+    fn is_blocking(&self, pairs: &[(u64, u8)], by: u64, at: u64) -> bool
+        ensures { result ≡ is_blocking (union_byte self.now.layout.now self.now.shift self.now.size) (moved_pairs by pairs.now) at }
+    {
+        if names(pairs, by, at) {
+            self.byte_at(at) != 255
+        } else {
+            false
+        }
+    }
+
+    /// What is left of the offsets after a blocking byte for the pattern, moved by that many bytes.
+    fn rest_after<'o>(&self, pairs: &[(u64, u8)], by: u64, offsets: &'o [u64]) -> Option<&'o [u64]>
+        ensures { option_map (λ rest. rest.now) result ≡ after_blocking (union_byte self.now.layout.now self.now.shift self.now.size) (moved_pairs by pairs.now ∷ []) offsets.now }
+    {
+        match offsets.split_first() {
+            Some((at, rest)) => {
+                if self.is_blocking(pairs, by, *at) {
+                    Some(rest)
+                } else {
+                    None
+                }
+            }
+            None => None,
+        }
+    }
+
+    /// What is left of the offsets after a blocking byte for each pattern that the values offer, moved by
+    /// that many bytes; `None` where one is missing or does not block.
+    fn rest_after_all<'o>(
+        &self,
+        values: &ForbiddenValues,
+        by: u64,
+        offsets: &'o [u64],
+    ) -> Option<&'o [u64]>
+        ensures { option_map (λ rest. rest.now) result
+            ≡ after_blocking (union_byte self.now.layout.now self.now.shift self.now.size) (map (moved_pairs by) (offered (items values.now))) offsets.now }
+    {
+        match values {
+            ForbiddenValues::End => Some(offsets),
+            ForbiddenValues::Array(pattern) => self.rest_after(pattern.pairs(), by, offsets),
+            ForbiddenValues::ForbiddenRange { min, offset, .. } => {
+                self.rest_after(&[(*offset, *min)], by, offsets)
+            }
+            ForbiddenValues::Or(left, right) => match self.rest_after_all(left, by, offsets) {
+                Some(rest) => self.rest_after_all(right, by, rest),
+                None => None,
+            },
+        }
+    }
+
+    /// Whether the offsets name a blocking byte for each pattern that the values offer, moved by that many
+    /// bytes, in order, and nothing else.
+    #[tactic(auto, using(crate::proofs::Blocking::all_blocking, crate::proofs::Blocking::not_blocking))]
+    pub(crate) fn are_blocking(&self, values: &ForbiddenValues, by: u64, offsets: &[u64]) -> bool
+        ensures { result ≡ are_blocking (union_byte self.now.layout.now self.now.shift self.now.size) (map (moved_pairs by) (offered (items values.now))) offsets.now }
+    {
+        match self.rest_after_all(values, by, offsets) {
+            Some(rest) => rest.is_empty(),
+            None => false,
+        }
+    }
+}
+
+/// Whether the byte at offset `at` is one of the pattern's, moved by that many bytes.
+fn names(pairs: &[(u64, u8)], by: u64, at: u64) -> bool
+    ensures { result ≡ list_any (λ p. p.0 == at) (moved_pairs by pairs.now) }
+{
+    for (offset, _) in pairs {
+        if is_moved_to(*offset, by, at) {
+            return true;
+        }
+    }
+    false
+}
+
+/// Whether `offset` and `by` make `at`.
+fn is_moved_to(offset: u64, by: u64, at: u64) -> bool
+    ensures { result ≡ (offset + by == at) }
+{
+    if by <= at { offset == at - by } else { false }
+}
+
+/// The pattern, moved by that many bytes.
+fn moved(alloc: Global, pattern: &Pattern, by: u64) -> Result<Pattern, OutOfMemory>
+    requires { IsTrue (are_below 1048576 (moved_pairs by pattern.now)) }
+    ensures { IfOk result (λ moved. moved ≡ moved_pairs by pattern.now) }
+{
+    let pairs = moved_pairs(alloc, pattern.pairs(), by)?;
+    match Pattern::new(alloc, pairs.as_slice())? {
+        Some(pattern) => Ok(pattern),
+        None => unreachable!(),
+    }
+}
+
+fn moved_pairs(alloc: Global, pairs: &[(u64, u8)], by: u64) -> Result<Items<(u64, u8)>, OutOfMemory>
+    requires { IsTrue (are_below 1048576 (moved_pairs by pairs.now)) }
+    ensures { IfOk result (λ moved. moved ≡ moved_pairs by pairs.now) }
+{
+    let mut moved = Items::new(alloc);
+    for (offset, byte) in pairs {
+        moved.push((*offset + by, *byte))?;
+    }
+    Ok(moved)
+}
