@@ -1,5 +1,6 @@
 pub mod Counts
 pub mod Entries
+pub mod Following
 pub mod Forbids
 pub mod Least
 pub mod Masks

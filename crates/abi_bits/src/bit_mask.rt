@@ -7,7 +7,7 @@ ghost use Rattle.abi_bits.specs.Mask.{is_mask, IsMask, mask_at, Has, have_bits, 
 
 use crate::Pairs;
 use crate::merge::{Join, merged};
-use crate::pairs::{are_below, are_rising, moved, push_some};
+use crate::pairs::{are_below, are_rising, moved, push_moved, push_some};
 use abi_num::{Items, OutOfMemory};
 use std::alloc::Global;
 use std::marker::Model;
@@ -170,6 +170,21 @@ impl BitMask {
         ensures bits { IfOk result (λ mask. (n : ℕ) → Has mask n ↔ ((8 * by ≤ n) × Has self.now (n - 8 * by))) }
     {
         let entries = moved(alloc, self.entries.as_slice(), by)?;
+        Ok(BitMask { entries })
+    }
+
+    /// The bits of both sets, those of `other` `by` bytes further on, where they lie past every byte of this
+    /// set. Takes as long as `other` has bytes.
+    #[tactic(auto, using(crate::proofs::Following::followed_is_mask, crate::proofs::Following::followed_bytes))]
+    pub fn with_moved(self, other: &BitMask, by: u64) -> Result<BitMask, OutOfMemory>
+        requires above { IsTrue (are_below by self) }
+        requires within { IsTrue (are_below 1048576 (moved_pairs by other.now)) }
+        ensures same { IfOk result (λ mask. mask ≡ self ++ moved_pairs by other.now) }
+        ensures valid { IfOk result (λ mask. IsMask mask) }
+        ensures bytes { IfOk result (λ mask. (at : ℕ) → mask_at mask at ≡ bit_or (mask_at self at) (if nat_le by at then mask_at other.now (at - by) else 0)) }
+    {
+        let mut entries = self.entries;
+        push_moved(&mut entries, other.entries.as_slice(), by)?;
         Ok(BitMask { entries })
     }
 

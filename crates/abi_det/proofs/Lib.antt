@@ -1,9 +1,11 @@
 pub mod Blocking
 pub mod Chosen
+pub mod Carrying
 pub mod Entries
 pub mod Exporting
+pub mod FirstBytes
+pub mod Heads
 pub mod Lawful
-pub mod Masks
 pub mod Moving
 pub mod Next
 pub mod Niches
@@ -13,6 +15,7 @@ pub mod Places
 pub mod Refused
 pub mod Refusing
 pub mod Sizes
+pub mod SoundRows
 pub mod Sums
 pub mod Unions
 pub mod WorkedRows

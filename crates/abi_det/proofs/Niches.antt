@@ -2,11 +2,11 @@
 use Rattle.std.proofs.Common.{◌≡◌, ℕ, zero, suc, ◌+◌, ◌-◌, ◌*◌, ◌/◌, ◌%◌, ◌^◌, ◌<◌, Bool, true, false, List, [], ◌∷◌, Option, Some, None, map, length, get_or, cond, eqb, ltb, refl, sym, ap, ◌≢◌, ◌∙◌, subst, inl, inr, arith}
 use Rattle.std.specs.List.{find}
 use Rattle.std.specs.Int.{bit_at, trailing_zeros, w8}
-use Rattle.std.proofs.lemmas.Nat.{and_le_l, or_lt}
+use Rattle.std.proofs.lemmas.Nat.{and_le_l}
 use Rattle.std.proofs.lemmas.Nat.Bits.{bit_at-zero}
 use Rattle.std.proofs.lemmas.Bool.{ne_eqb, eq-eqb, cases_lt, cases_eq, cases_Bool, both_ways}
 use Rattle.abi_bits.specs.Pairs.{Pair, moved_pairs}
-use Rattle.abi_bits.specs.Mask.{mask_at, IsMask, have_bits, entries_below, least_bit}
+use Rattle.abi_bits.specs.Mask.{mask_at, IsMask, entries_below, least_bit}
 use Rattle.abi_bits.specs.Forbidden.{offered}
 use Rattle.abi_bits.proofs.Entries.{mask_at_lt}
 use Rattle.abi_bits.proofs.Least.{low_bit}
@@ -18,7 +18,7 @@ use Rattle.abi_det.specs.declared.placements.Kind.{Kind}
 use Rattle.abi_det.specs.declared.placements.Kind.TheVariants as kind
 use Rattle.abi_det.specs.declared.determinant.Test.{Test}
 use Rattle.abi_det.specs.declared.determinant.Test.TheVariants as test
-use Rattle.abi_det.proofs.Masks.{FirstByte, first_byte}
+use Rattle.abi_det.proofs.FirstBytes.{FirstByte, first_byte}
 
 -- the first element that passes, with its number
 abbrev pub FoundAt : {A : Type 0} → (A → Bool) → A → List A → Option A → Type 0

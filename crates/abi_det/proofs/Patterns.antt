@@ -1,11 +1,11 @@
 -- A pattern that a variant offers, moved to the variant's place: where it lies, and that the variant never matches it.
-use Rattle.std.proofs.Common.{◌≡◌, ℕ, zero, suc, ◌+◌, ◌-◌, ◌<◌, ◌≤◌, Bool, true, false, ◌&&◌, not, List, [], ◌∷◌, length, get_or, eqb, ltb, leb, refl, sym, subst, inl, inr, arith}
+use Rattle.std.proofs.Common.{◌≡◌, ℕ, zero, suc, ◌+◌, ◌-◌, ◌<◌, ◌≤◌, Bool, true, false, List, [], ◌∷◌, length, get_or, eqb, ltb, leb, refl, sym, subst, inl, inr, arith}
 use Rattle.std.specs.List.{list_all, list_any}
 use Rattle.std.specs.Int.{bit_at}
-use Rattle.std.proofs.Math.Nat.{add-zero, add_comm}
+use Rattle.std.proofs.Math.Nat.{add_comm}
 use Rattle.std.proofs.lemmas.Nat.Bits.{bit_at-zero}
 use Rattle.std.proofs.lemmas.Bool.{and_parts, and_from, or_left, or_right, or_cases, ltb-true, eqb-true, lt-ltb, le-ltb, le-leb}
-use Rattle.abi_bits.specs.Pairs.{Pair, moved_pairs, is_matched, is_empty, is_pattern, IsPattern, are_below, are_rising}
+use Rattle.abi_bits.specs.Pairs.{Pair, moved_pairs, is_matched, is_pattern, IsPattern, are_below}
 use Rattle.abi_bits.specs.Mask.{mask_at}
 use Rattle.abi_bits.specs.Forbidden.{Item, pattern, range, offer, offered, is_match, is_solid_byte, is_solid_item}
 use Rattle.abi_det.specs.Frame.{Frame}
@@ -119,7 +119,8 @@ module _ (f : Frame) (sound : IsSound f) (shift n : ℕ) (there : n < length (of
   pattern_in size inside small =
       let ps : List Pair = get_or (offered f.forbids) n [] in
       let is : IsPattern ps = all_nth is_pattern [] (offered f.forbids) n sound.patterns there in
-      let own : are_below f.size ps ≡ true = bytes_in f.size f.size f.free ps (omega arith) solid in
-      (moved_is_pattern shift ps moved is (moved_below shift f.size 1048576 ps own (omega (arith, inside, small))) refl,
-      moved_below shift f.size size ps own (omega (arith, inside)),
-      moved_bytes shift ps (all_nth are_bytes [] (offered f.forbids) n sound.bytes there))
+      let own : are_below f.size ps ≡ true = bytes_in f.size f.size f.free ps (omega arith) solid in (
+        moved_is_pattern shift ps moved is (moved_below shift f.size 1048576 ps own (omega (arith, inside, small))) refl,
+        moved_below shift f.size size ps own (omega (arith, inside)),
+        moved_bytes shift ps (all_nth are_bytes [] (offered f.forbids) n sound.bytes there),
+      )

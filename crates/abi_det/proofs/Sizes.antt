@@ -12,7 +12,7 @@ use Rattle.abi_bits.specs.Pairs.{are_below}
 use Rattle.abi_bits.specs.Forbidden.{is_solid_item}
 use Rattle.abi_det.specs.Frame.{Frame, IsLawful}
 use Rattle.abi_det.specs.Roles.{sum_align, union_size}
-use Rattle.abi_det.specs.Laws.{UnionLaw}
+use Rattle.abi_det.specs.Laws.{UnionLaw, RoundLaw}
 use Rattle.abi_det.proofs.Lawful.{parts}
 
 one_bit : (d n : ℕ) → n ≤ d → count_ones n ≡ 1 → (k : ℕ) × (n ≡ 2 ^ k)
@@ -107,3 +107,26 @@ union_small ok err a b =
     let x = (parts ok a).size in
     let y = (parts err b).size in
     rounded_small (max ok.size err.size) (sum_align ok err) (omega (arith, x, y)) (sum_alignment ok err a b)
+
+-- of two multiples the lesser is less by a whole step
+one_step : (a u n : ℕ) → u % a ≡ 0 → n % a ≡ 0 → n < u → n + a ≤ u
+one_step a u n whole_u whole_n lt =
+    let q : u ≡ a * (u / a) = omega (arith, div-add-mod u a, whole_u) in
+    let r : n ≡ a * (n / a) = omega (arith, div-add-mod n a, whole_n) in
+    elim (cases_lt (n / a) (u / a)) [
+      | inl less ↦ omega (arith, q, r, mul-le-mul_right a less, suc-mul (n / a) a, mul_comm (n / a) a, mul_comm (u / a) a)
+      | inr more ↦ absurd (omega (arith, q, r, lt, mul-le-mul_right a more, mul_comm (n / a) a, mul_comm (u / a) a))
+    ]
+
+pub union_least : RoundLaw
+union_least ok err a b =
+    let r = union_rounded ok err a b in
+    let bound = rounded (max ok.size err.size) (sum_align ok err) (alignment_positive (sum_align ok err) (sum_alignment ok err a b)) in (
+      r.0,
+      r.1,
+      r.2,
+      λ n x y whole. elim (cases_lt n (union_size ok err)) [
+        | inl lt ↦ absurd (omega (arith, one_step (sum_align ok err) (union_size ok err) n r.2 whole lt, bound.1, x, y))
+        | inr le ↦ le
+      ],
+    )

@@ -2,7 +2,6 @@
 use Rattle.std.proofs.Common.{◌≡◌, ℕ, ◌+◌, ◌*◌, ◌%◌, ◌≤◌, Option, Some, None, true, refl, ◌⊎◌, inl, inr, arith}
 use Rattle.std.proofs.Math.Nat.{add-zero, add-mod_right}
 use Rattle.abi_bits.specs.Pairs.{are_below}
-use Rattle.abi_bits.specs.Mask.{entries_below}
 use Rattle.abi_det.specs.Frame.{Frame, IsLawful}
 use Rattle.abi_det.specs.Roles.{larger, smaller, sum_align, union_size, spare_byte}
 use Rattle.abi_det.specs.Offers.{Niche, first_offer}

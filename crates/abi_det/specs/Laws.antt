@@ -1,11 +1,13 @@
 -- Laws over the definitions of sums, each in the words of its subject.
-use Rattle.std.specs.Prelude.{◌≡◌, ◌≢◌, ◌↔◌, ℕ, ◌+◌, ◌<◌, ◌≤◌, List, [], true, false}
+use Rattle.std.specs.Prelude.{◌≡◌, ◌≢◌, ◌↔◌, ℕ, ◌+◌, ◌%◌, ◌<◌, ◌≤◌, List, [], true, false, Some}
 use Rattle.abi_bits.specs.Pairs.{Pair}
 use Rattle.abi_bits.specs.Mask.{IsMask}
+use Rattle.abi_bits.specs.Forbidden.{items, head, offered}
+use Rattle.abi_bits.specs.declared.forbidden_values.ForbiddenValues.{ForbiddenValues}
 use Rattle.abi_det.specs.Frame.{Frame, IsLawful}
-use Rattle.abi_det.specs.Roles.{larger, smaller, is_place, lies_free, union_size}
-use Rattle.abi_det.specs.Offers.{Rules}
-use Rattle.abi_det.specs.Niches.{IsFirstBelow, taken}
+use Rattle.abi_det.specs.Roles.{larger, smaller, is_place, lies_free, sum_align, union_size}
+use Rattle.abi_det.specs.Offers.{Rules, first_of}
+use Rattle.abi_det.specs.Niches.{OffersNone, IsFirstBelow, taken}
 use Rattle.abi_det.specs.Refusals.{AllRefuse, AreComplete, IsFirstBlocking}
 use Rattle.abi_det.specs.Written.{first_blocking, written_placement, written_sum}
 use Rattle.abi_det.specs.Owed.{IsSound, IsOwed}
@@ -57,3 +59,20 @@ RefusalsLaw =
 -- a written refusal names of each pattern the first byte that is not wholly free
 abbrev pub BlockingLaw : Type 0
 BlockingLaw = (free : ℕ → ℕ) (ps : List Pair) → lies_free free ps ≡ false → IsFirstBlocking free ps (first_blocking free ps)
+
+-- the head of forbidden values is what their first item offers
+abbrev pub HeadLaw : Type 0
+HeadLaw = (v : ForbiddenValues) (ps : List Pair) → head v ≡ Some ps → first_of (offered (items v)) ≡ Some ps
+
+-- the union is the least multiple of the sum's alignment that both variants fit into
+abbrev pub RoundLaw : Type 0
+RoundLaw =
+    (ok err : Frame) → IsLawful ok → IsLawful err → let u : ℕ = union_size ok err in
+    (ok.size ≤ u) × (err.size ≤ u) × (u % sum_align ok err ≡ 0)
+    × ((n : ℕ) → ok.size ≤ n → err.size ≤ n → n % sum_align ok err ≡ 0 → u ≤ n)
+
+-- a sum is as large as its union, and one alignment larger exactly where no existing place offers a niche
+abbrev pub SizeLaw : Type 0
+SizeLaw =
+    (rules : Rules) (ok err : Frame) → IsMask ok.free → IsMask err.free → let none : Type 0 = OffersNone rules (larger ok err) (smaller ok err) (union_size ok err) 8 in
+    (none → (written_sum rules ok err).size ≡ union_size ok err + sum_align ok err) × ((none → ⊥) → (written_sum rules ok err).size ≡ union_size ok err)

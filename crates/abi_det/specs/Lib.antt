@@ -9,3 +9,4 @@ pub mod Roles
 pub mod Search
 pub mod State
 pub mod Written
+pub mod Writes

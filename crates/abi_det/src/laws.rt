@@ -1,14 +1,38 @@
 //! Laws over the definitions that the contracts of this crate cite. No function here does anything: its
 //! contract is the law.
 
+ghost use Rattle.abi_det.specs.Writes.{KeptLaw, CarriedLaw};
 ghost use Rattle.abi_det.specs.Laws.{
-    UnionLaw, PlaceLaw, PlacementLaw, OwedLaw, LawfulSumLaw, SoundSumLaw, RefusedLaw, RefusalsLaw, BlockingLaw
+  UnionLaw,
+  RoundLaw,
+  SizeLaw,
+  PlaceLaw,
+  PlacementLaw,
+  OwedLaw,
+  LawfulSumLaw,
+  SoundSumLaw,
+  RefusedLaw,
+  RefusalsLaw,
+  BlockingLaw,
+  HeadLaw,
 };
 
 /// The union of the variants of a sum is no larger than a layout may be.
 #[tactic(auto, using(crate::proofs::Sizes::union_small))]
 pub fn union_fits()
     ensures { UnionLaw }
+{}
+
+/// The union of the variants of a sum is the least multiple of the sum's alignment that both fit into.
+#[tactic(auto, using(crate::proofs::Sizes::union_least))]
+pub fn union_is_rounded_up()
+    ensures { RoundLaw }
+{}
+
+/// A sum is as large as its union, and one alignment larger exactly where no existing place offers a niche.
+#[tactic(auto, using(crate::proofs::Chosen::sum_size))]
+pub fn sum_is_larger_by_its_tag_alone()
+    ensures { SizeLaw }
 {}
 
 /// There are at most eight places.
@@ -58,4 +82,22 @@ pub fn refusals_are_complete()
 #[tactic(auto, using(crate::proofs::Refusing::first_is_first))]
 pub fn refusals_name_the_first_byte()
     ensures { BlockingLaw }
+{}
+
+/// The head of forbidden values is what their first item offers.
+#[tactic(auto, using(crate::proofs::Heads::head_leads))]
+pub fn head_is_the_first_offer()
+    ensures { HeadLaw }
+{}
+
+/// The two writes of a determinant change the test's own bits alone.
+#[tactic(auto, using(crate::proofs::Carrying::kept))]
+pub fn writes_keep_other_bits()
+    ensures { KeptLaw }
+{}
+
+/// After a write the test has the truth that was wanted, unless a pattern was to be absent.
+#[tactic(auto, using(crate::proofs::Carrying::carried))]
+pub fn writes_tell_the_variant()
+    ensures { CarriedLaw }
 {}

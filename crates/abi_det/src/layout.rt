@@ -1,8 +1,10 @@
-ghost use Rattle.std.specs.Prelude.{◌≡◌, ◌↔◌, ◌≤◌, ◌<◌, IsTrue, IsSome, IfSome, length, slice_index};
+ghost use Rattle.std.specs.Prelude.{◌≡◌, ◌↔◌, ◌≤◌, ◌<◌, IsTrue, IsSome, IfSome, IfOk, length, slice_index};
 ghost use Rattle.std.specs.List.{list_any};
 
 use crate::raw_layout::RawLayout;
 use abi_bits::{BitMask, ForbiddenValues, SaturatingAddValue};
+use abi_num::OutOfMemory;
+use std::alloc::Global;
 use std::marker::Model;
 
 /// A layout that keeps the rule of lawful layouts: an alignment that is a power of two up to 65,536, a size
@@ -41,6 +43,30 @@ impl Layout {
         } else {
             None
         }
+    }
+
+    /// The layout of these parts, which are known to keep the rule of lawful layouts: no test is made.
+    pub fn from_lawful(raw: RawLayout) -> Layout
+        requires { IsLawful (frame raw) }
+        ensures { result ≡ frame raw }
+    {
+        Layout { raw }
+    }
+
+    /// The parts.
+    pub fn into_raw(self) -> RawLayout
+        ensures same { frame result ≡ self }
+        ensures lawful { IsLawful self }
+    {
+        self.raw
+    }
+
+    /// An equal layout.
+    pub fn copy(&self, alloc: Global) -> Result<Layout, OutOfMemory>
+        ensures { IfOk result (λ l. l ≡ self.now) }
+    {
+        let raw = self.raw.copy(alloc)?;
+        Ok(Layout { raw })
     }
 
     /// Size in bytes, at most `MAX_SIZE`.

@@ -12,6 +12,8 @@ mod roles;
 mod search;
 mod spot;
 mod sum;
+#[cfg(test)]
+mod tests;
 
 pub use determinant::{Determinant, Test};
 pub use layout::Layout;

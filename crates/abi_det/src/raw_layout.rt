@@ -1,7 +1,8 @@
-ghost use Rattle.std.specs.Prelude.{◌≡◌};
+ghost use Rattle.std.specs.Prelude.{◌≡◌, IfOk};
 
 use abi_bits::{BitMask, ForbiddenValues, MAX_SIZE, SaturatingAddValue};
-use abi_num::Alignment;
+use abi_num::{Alignment, OutOfMemory};
+use std::alloc::Global;
 
 /// What is known of a type's bytes, before it is checked to be lawful.
 #[derive(Debug, Drop)]
@@ -23,6 +24,22 @@ pub struct RawLayout {
 impl RawLayout {
     ghost use Rattle.abi_det.specs.Frame.{is_lawful};
     ghost use Rattle.abi_det.specs.FrameOf.{frame};
+
+    /// Equal parts.
+    pub fn copy(&self, alloc: Global) -> Result<RawLayout, OutOfMemory>
+        ensures { IfOk result (λ raw. frame raw ≡ frame self.now) }
+    {
+        let forbidden = self.forbidden.copy(alloc)?;
+        let unused = self.unused.copy(alloc)?;
+        Ok(RawLayout {
+            size: self.size,
+            align: self.align,
+            forbidden,
+            unused,
+            niches: self.niches,
+            indirections: self.indirections,
+        })
+    }
 
     /// Whether the rule of lawful layouts holds.
     pub(crate) fn is_lawful(&self) -> bool

@@ -23,7 +23,8 @@ use std::alloc::Global;
 /// no place offers one.
 #[tactic(auto, using(crate::proofs::Places::written_niched, crate::proofs::Places::written_tagged))]
 pub fn placement(alloc: Global, ok: &Layout, err: &Layout) -> Result<Placement, OutOfMemory>
-    ensures { IfOk result (λ p. p ≡ written_placement One ok.now err.now) }
+    ensures written { IfOk result (λ p. p ≡ written_placement One ok.now err.now) }
+    ensures front { IfOk result (λ p. p.front ≤ 65536) }
 {
     let roles = Roles::new(ok, err);
     let patterns = roles.offered(alloc)?;
@@ -91,7 +92,8 @@ fn niched(
 ) -> Result<Placement, OutOfMemory>
     requires exists { IsTrue (is_place (smaller ok.now err.now) (union_size ok.now err.now) place) }
     requires spared { IsSpared (spare_byte (larger ok.now err.now) (smaller ok.now err.now) (place * (smaller ok.now err.now).align) (union_size ok.now err.now)) found.test }
-    ensures { IfOk result (λ p. p ≡ niched ok.now err.now place (niche_of found)) }
+    ensures same { IfOk result (λ p. p ≡ niched ok.now err.now place (niche_of found)) }
+    ensures front { IfOk result (λ p. p.front ≤ 65536) }
 {
     let roles = Roles::new(ok, err);
     let shift = roles.shift(place);
@@ -121,7 +123,8 @@ fn tagged(
 ) -> Result<Placement, OutOfMemory>
     requires larger { patterns.now.larger ≡ offered (larger ok.now err.now).forbids }
     requires smaller { patterns.now.smaller ≡ offered (smaller ok.now err.now).forbids }
-    ensures { IfOk result (λ p. p ≡ tagged ok.now err.now) }
+    ensures same { IfOk result (λ p. p ≡ tagged ok.now err.now) }
+    ensures front { IfOk result (λ p. p.front ≤ 65536) }
 {
     let roles = Roles::new(ok, err);
     let refusals = roles.refusals(alloc, patterns)?;

@@ -1,5 +1,5 @@
 -- Low digits and powers of two below 2 ^ 128.
-use Rattle.std.proofs.Common.{ℕ, zero, suc, ◌≡◌, ◌+◌, ◌-◌, ◌*◌, ◌/◌, ◌%◌, ◌^◌, ◌<◌, ◌≤◌, ℤ, pos, negsuc, arith, refl, ap, sym, ◌∙◌, FitsSigned}
+use Rattle.std.proofs.Common.{ℕ, suc, ◌≡◌, ◌+◌, ◌-◌, ◌*◌, ◌/◌, ◌%◌, ◌^◌, ◌<◌, ◌≤◌, ℤ, pos, negsuc, arith, refl, ap, sym, ◌∙◌, FitsSigned}
 use Rattle.std.proofs.lemmas.Nat.{mod_low, mod_below, pow_pos, pow-add, div-add-mod'}
 use Rattle.std.proofs.Math.Nat.{pow-le-pow_right, lt_of_mul-lt-mul_right}
 use Rattle.std.specs.Int.{w128, cast_unsigned}

@@ -1,12 +1,12 @@
 -- The ranges of narrow types against the bits of the types that keep them.
-use Rattle.std.proofs.Common.{ℕ, suc, ◌≡◌, ◌+◌, ◌-◌, ◌*◌, ◌^◌, ◌<◌, ◌≤◌, Bool, true, false, cond, ℤ, pos, negsuc, ◌≤ℤ◌, FitsSigned, IsTrue, arith, refl, lit≤, lit<}
+use Rattle.std.proofs.Common.{ℕ, ◌≡◌, ◌+◌, ◌-◌, ◌^◌, ◌<◌, ◌≤◌, Bool, true, false, cond, ℤ, pos, negsuc, ◌≤ℤ◌, FitsSigned, IsTrue, arith, refl, lit≤}
 use Rattle.std.proofs.lemmas.Bool.Decides.{nat_tests}
 use Rattle.std.proofs.lemmas.Int.{ints}
 use Rattle.std.proofs.lemmas.Nat.{pow_pos}
 use Rattle.std.proofs.Math.Nat.{pow-le-pow_right}
 use Rattle.std.specs.Int.{Width, w8, w16, w32, w64, w128}
 use mir.Val.{bits, hbits}
-use Rattle.abi_narrow_i.specs.Width.{smaller_bits, has_width, greatest, least, InRange}
+use Rattle.abi_narrow_i.specs.Width.{has_width, greatest, least, InRange}
 
 power_up_to : (i j : ℕ) → i ≤ j → 2 ^ i ≤ 2 ^ j
 power_up_to i j h = pow-le-pow_right {n = 2} (omega arith) h

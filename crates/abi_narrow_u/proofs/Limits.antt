@@ -1,12 +1,12 @@
 -- The limit of a narrow type against the bits of the type that keeps it.
-use Rattle.std.proofs.Common.{ℕ, ◌≡◌, ◌+◌, ◌-◌, ◌*◌, ◌^◌, ◌<◌, ◌≤◌, Bool, true, false, cond, IsTrue, bit_or, arith, refl, lit≤}
+use Rattle.std.proofs.Common.{ℕ, ◌≡◌, ◌+◌, ◌*◌, ◌^◌, ◌<◌, ◌≤◌, Bool, true, false, cond, IsTrue, bit_or, arith, refl, lit≤}
 use Rattle.std.proofs.lemmas.Bool.Decides.{nat_tests}
 use Rattle.std.proofs.lemmas.Grind.{pow_more}
 use Rattle.std.proofs.lemmas.Nat.{or_lt}
 use Rattle.std.proofs.Math.Nat.{pow-le-pow_right}
 use Rattle.std.specs.Int.{Width, w8, w16, w32, w64, w128}
 use mir.Val.{bits}
-use Rattle.abi_narrow_u.specs.Width.{smaller_bits, has_width, limit}
+use Rattle.abi_narrow_u.specs.Width.{has_width, limit}
 
 power_up_to : (i j : ℕ) → i ≤ j → 2 ^ i ≤ 2 ^ j
 power_up_to i j h = pow-le-pow_right {n = 2} (omega arith) h

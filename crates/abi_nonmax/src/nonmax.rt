@@ -1,5 +1,3 @@
-ghost use Rattle.std.specs.Prelude.{◌≡◌};
-
 use crate::restricted::{Restricted, Restriction};
 use crate::word::Word;
 

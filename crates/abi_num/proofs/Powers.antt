@@ -1,8 +1,8 @@
 -- Powers of two against the numbers between them.
-use Rattle.std.proofs.Common.{ℕ, ◌≡◌, ◌+◌, ◌-◌, ◌*◌, ◌%◌, ◌^◌, ◌<◌, ◌≤◌, IsTrue, arith, sym, ◌∙◌, refl, ap, ◌⊎◌, eqb-true, inl, inr}
+use Rattle.std.proofs.Common.{ℕ, ◌≡◌, ◌+◌, ◌-◌, ◌*◌, ◌%◌, ◌^◌, ◌<◌, ◌≤◌, IsTrue, arith, sym, ◌∙◌, ap, eqb-true, inl, inr}
 use Rattle.std.proofs.lemmas.Bool.{cases_lt}
 use Rattle.std.proofs.Math.Nat.{pow-le-pow_right, mod-eq_of_lt}
-use Rattle.std.proofs.lemmas.Nat.{zero_from_ones, pow_below, pow_pos}
+use Rattle.std.proofs.lemmas.Nat.{zero_from_ones, pow_below}
 use Rattle.std.proofs.lemmas.Nat.Bits.{bit_at-trailing_zeros}
 use Rattle.std.specs.Int.{is_power_of_two, trailing_zeros, w128}
 use lib.Count.{ones, ones_cat, ones-ones}

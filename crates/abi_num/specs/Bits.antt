@@ -1,4 +1,4 @@
-use Rattle.std.specs.Prelude.{ℕ, Bool, true, false, cond, ◌+◌, ◌%◌, ◌==◌, nat_le, nat_lt}
+use Rattle.std.specs.Prelude.{ℕ, Bool, true, false, ◌+◌, ◌%◌, ◌==◌, nat_le, nat_lt}
 
 -- a bit as a number
 abbrev pub digit : Bool → ℕ

@@ -1,0 +1,29 @@
+-- Sound frames, so that the laws on them speak of something: a boolean, and the option of one.
+use lib.Count.{ones, ones_step}
+use Rattle.std.proofs.Common.{◌≡◌, [], ◌∷◌, false, None, Some, refl, arith}
+use Rattle.std.proofs.lemmas.Nat.{ones_le_self}
+use Rattle.abi_bits.specs.Forbidden.{range}
+use Rattle.abi_bits.specs.declared.saturating_add_value.SaturatingAddValue.TheVariants as counts
+use Rattle.abi_det.specs.Frame.{Frame}
+use Rattle.abi_det.specs.Offers.{One}
+use Rattle.abi_det.specs.Written.{written_placement}
+use Rattle.abi_det.specs.Owed.{IsSound, IsOwed}
+use Rattle.abi_det.proofs.Owed.{owed}
+
+abbrev bool_frame : Frame
+bool_frame = record { size = 1; align = 1; free = []; forbids = range 0 2 255 ∷ []; head = Some ((0, 2) ∷ []); niches = counts.Saturator; indirections = false }
+
+abbrev unit_frame : Frame
+unit_frame = record { size = 0; align = 1; free = []; forbids = []; head = None; niches = counts.B0; indirections = false }
+
+one_bit : ones 1 ≡ 1
+one_bit = omega (arith, ones_step 1, ones_le_self 0)
+
+bool_sound : IsSound bool_frame
+bool_sound = record { lawful = rw one_bit refl; mask = refl; patterns = refl; bytes = refl; leads = λ ps is. is }
+
+unit_sound : IsSound unit_frame
+unit_sound = record { lawful = rw one_bit refl; mask = refl; patterns = refl; bytes = refl; leads = λ ps is. is }
+
+option_owed : IsOwed bool_frame unit_frame (written_placement One bool_frame unit_frame)
+option_owed = owed One bool_frame unit_frame bool_sound unit_sound

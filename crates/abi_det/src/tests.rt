@@ -1,0 +1,411 @@
+use crate::{
+    Determinant, Kind, Layout, Placement, RawLayout, Refusal, Test, check_refusal, placement,
+    sum_layout, sum_size,
+};
+use abi_bits::{BitMask, ForbiddenValues, Pattern, SaturatingAddValue};
+use abi_num::Items;
+use std::alloc::{AllocError, Global};
+use std::fmt::Write;
+use std::test::Fail;
+
+/// What a row's variant forbids.
+enum Forbids {
+    Nothing,
+    /// A pattern.
+    Pattern(&'static [(u64, u8)]),
+    /// What a `bool` at that offset forbids.
+    Bool(u64),
+    /// The same in a struct that begins with a number, whose leftmost leaf forbids nothing.
+    LaterBool(u64),
+}
+
+/// A variant of a sum: sizes in bytes, and the entries of its free bits.
+struct Side {
+    size: u64,
+    align: u64,
+    free: &'static [(u64, u8)],
+    forbids: Forbids,
+}
+
+/// Two variants, and what is told of their placement.
+struct Row {
+    ok: Side,
+    err: Side,
+    told: &'static str,
+}
+
+impl Forbids {
+    fn values(&self, alloc: Global) -> Result<ForbiddenValues, Fail> {
+        match self {
+            Forbids::Nothing => Ok(ForbiddenValues::End),
+            Forbids::Pattern(pairs) => {
+                let pattern = Pattern::new(alloc, pairs)?.ok_or("no pattern")?;
+                Ok(ForbiddenValues::Array(pattern))
+            }
+            Forbids::Bool(offset) => Ok(no_bool(*offset)),
+            Forbids::LaterBool(offset) => {
+                let left = Box::new(alloc, ForbiddenValues::End)?;
+                let right = Box::new(alloc, no_bool(*offset))?;
+                Ok(ForbiddenValues::Or(left, right))
+            }
+        }
+    }
+}
+
+/// The values that no `bool` at that offset has.
+fn no_bool(offset: u64) -> ForbiddenValues {
+    ForbiddenValues::ForbiddenRange {
+        min: 2,
+        max: 255,
+        offset,
+    }
+}
+
+impl Side {
+    fn layout(&self, alloc: Global) -> Result<Layout, Fail> {
+        let unused = BitMask::from_entries(alloc, self.free)?.ok_or("entries out of order")?;
+        let raw = RawLayout {
+            size: self.size,
+            align: self.align,
+            forbidden: self.forbids.values(alloc)?,
+            unused,
+            niches: SaturatingAddValue::B0,
+            indirections: false,
+        };
+        let layout = Layout::new(raw).ok_or("no lawful layout")?;
+        Ok(layout)
+    }
+}
+
+fn push_pairs(out: &mut String, pairs: &[(u64, u8)]) -> Result<(), AllocError> {
+    for (offset, byte) in pairs {
+        write!(out, " {offset}={byte}")?;
+    }
+    Ok(())
+}
+
+fn push_offsets(out: &mut String, offsets: &[u64]) -> Result<(), AllocError> {
+    for offset in offsets {
+        write!(out, " {offset}")?;
+    }
+    Ok(())
+}
+
+fn push_determinant(
+    out: &mut String,
+    kind: Kind,
+    determinant: &Determinant,
+) -> Result<(), AllocError> {
+    let word = match kind {
+        Kind::SmallerPattern => "smaller",
+        Kind::LargerPattern => "larger",
+        Kind::SharedBit => "bit",
+        Kind::Tag => "tag",
+    };
+    write!(out, " {word}")?;
+    match &determinant.test {
+        Test::BitDeterminant => {}
+        Test::ValueIsErr(pattern) => push_pairs(out, pattern.pairs())?,
+        Test::BitIsErr { offset, mask } => write!(out, " {offset}:{mask}")?,
+    }
+    let side = if determinant.not { "ok" } else { "err" };
+    write!(out, " means {side}")
+}
+
+fn push_free(out: &mut String, free: &BitMask, size: u64) -> Result<(), AllocError> {
+    out.push_str(" free")?;
+    for at in 0..size {
+        let mask = free.byte_at(at);
+        if mask != 0 {
+            write!(out, " {at}:{mask}")?;
+        }
+    }
+    Ok(())
+}
+
+fn push_refusal(out: &mut String, refusal: &Refusal) -> Result<(), AllocError> {
+    let place = refusal.place;
+    write!(out, "; refusal {place} smaller")?;
+    push_offsets(out, refusal.smaller.as_slice())?;
+    out.push_str(" larger")?;
+    push_offsets(out, refusal.larger.as_slice())
+}
+
+fn told(alloc: Global, p: &Placement, size: u64) -> Result<String, AllocError> {
+    let place = p.place;
+    let front = p.front;
+    let ok = p.ok_shift;
+    let err = p.err_shift;
+    let mut out = format!(in alloc; "size {size} place {place} front {front} ok {ok} err {err}")?;
+    push_determinant(&mut out, p.kind, &p.determinant)?;
+    push_free(&mut out, &p.exported, size)?;
+    for refusal in p.refusals.as_slice() {
+        push_refusal(&mut out, refusal)?;
+    }
+    Ok(out)
+}
+
+/// The placement of the two: sizes and offsets in bytes, and what is free and refused.
+fn placed(alloc: Global, ok: &Layout, err: &Layout) -> Result<String, Fail> {
+    let p = placement(alloc, ok, err)?;
+    let size = sum_size(ok, err, &p);
+    let text = told(alloc, &p, size)?;
+    Ok(text)
+}
+
+/// An integer of one byte.
+const BYTE: Side = Side {
+    size: 1,
+    align: 1,
+    free: &[],
+    forbids: Forbids::Nothing,
+};
+
+/// An integer of two bytes.
+const PAIR: Side = Side {
+    size: 2,
+    align: 2,
+    free: &[],
+    forbids: Forbids::Nothing,
+};
+
+/// A struct without fields.
+const UNIT: Side = Side {
+    size: 0,
+    align: 1,
+    free: &[],
+    forbids: Forbids::Nothing,
+};
+
+/// An array of no integers of eight bytes.
+const NO_WORDS: Side = Side {
+    size: 0,
+    align: 8,
+    free: &[],
+    forbids: Forbids::Nothing,
+};
+
+/// An array of three bytes.
+const THREE_BYTES: Side = Side {
+    size: 3,
+    align: 1,
+    free: &[],
+    forbids: Forbids::Nothing,
+};
+
+/// A byte that is not 0.
+const NON_ZERO: Side = Side {
+    size: 1,
+    align: 1,
+    free: &[],
+    forbids: Forbids::Pattern(&[(0, 0)]),
+};
+
+/// Two bytes that are not both 0.
+const NON_ZERO_PAIR: Side = Side {
+    size: 2,
+    align: 2,
+    free: &[],
+    forbids: Forbids::Pattern(&[(0, 0), (1, 0)]),
+};
+
+/// A struct of four bytes and a `bool`.
+const WORD_AND_BOOL: Side = Side {
+    size: 8,
+    align: 4,
+    free: &[(5, 255), (6, 255), (7, 255)],
+    forbids: Forbids::LaterBool(4),
+};
+
+/// A struct of four bytes and one.
+const WORD_AND_BYTE: Side = Side {
+    size: 8,
+    align: 4,
+    free: &[(5, 255), (6, 255), (7, 255)],
+    forbids: Forbids::Nothing,
+};
+
+/// A struct of four bytes, one, one, and a `bool`.
+const WORD_BYTES_AND_BOOL: Side = Side {
+    size: 8,
+    align: 4,
+    free: &[(7, 255)],
+    forbids: Forbids::LaterBool(6),
+};
+
+/// Three bytes, of which the middle is free.
+const HOLLOW: Side = Side {
+    size: 3,
+    align: 1,
+    free: &[(1, 255)],
+    forbids: Forbids::Nothing,
+};
+
+/// A struct of a `bool` and a byte.
+const BOOL_AND_BYTE: Side = Side {
+    size: 2,
+    align: 1,
+    free: &[],
+    forbids: Forbids::Bool(0),
+};
+
+/// A `bool`.
+const BOOL: Side = Side {
+    size: 1,
+    align: 1,
+    free: &[],
+    forbids: Forbids::Bool(0),
+};
+
+/// A tagged sum of two bytes.
+const TAGGED_BYTES: Side = Side {
+    size: 2,
+    align: 1,
+    free: &[(0, 254)],
+    forbids: Forbids::Nothing,
+};
+
+static ROWS: [Row; 13] = [
+    Row {
+        ok: BYTE,
+        err: BYTE,
+        told: "size 2 place 0 front 1 ok 0 err 0 tag means err free 0:254; refusal 0 smaller larger",
+    },
+    Row {
+        ok: BYTE,
+        err: PAIR,
+        told: "size 4 place 0 front 2 ok 0 err 0 tag means ok free 0:254 1:255; refusal 0 smaller larger; refusal 1 smaller larger",
+    },
+    Row {
+        ok: BYTE,
+        err: NO_WORDS,
+        told: "size 16 place 0 front 8 ok 0 err 0 tag means err free 0:254 1:255 2:255 3:255 4:255 5:255 6:255 7:255; refusal 0 smaller larger",
+    },
+    Row {
+        ok: UNIT,
+        err: UNIT,
+        told: "size 1 place 0 front 1 ok 0 err 0 tag means err free 0:254; refusal 0 smaller larger",
+    },
+    Row {
+        ok: NON_ZERO,
+        err: BYTE,
+        told: "size 2 place 0 front 1 ok 0 err 0 tag means err free 0:254; refusal 0 smaller larger 0",
+    },
+    Row {
+        ok: WORD_AND_BOOL,
+        err: BYTE,
+        told: "size 8 place 0 front 0 ok 0 err 0 larger 4=2 means err free 5:255 6:255 7:255",
+    },
+    Row {
+        ok: WORD_AND_BYTE,
+        err: WORD_BYTES_AND_BOOL,
+        told: "size 8 place 0 front 0 ok 0 err 0 smaller 6=2 means ok free 7:255",
+    },
+    Row {
+        ok: HOLLOW,
+        err: BOOL_AND_BYTE,
+        told: "size 3 place 1 front 0 ok 0 err 1 smaller 1=2 means ok free",
+    },
+    Row {
+        ok: BOOL,
+        err: UNIT,
+        told: "size 1 place 0 front 0 ok 0 err 0 larger 0=2 means err free",
+    },
+    Row {
+        ok: WORD_AND_BYTE,
+        err: NON_ZERO,
+        told: "size 8 place 0 front 0 ok 0 err 0 bit 5:1 means err free 5:254 6:255 7:255",
+    },
+    Row {
+        ok: WORD_AND_BOOL,
+        err: UNIT,
+        told: "size 8 place 0 front 0 ok 0 err 0 bit 5:1 means err free 5:254 6:255 7:255",
+    },
+    Row {
+        ok: TAGGED_BYTES,
+        err: BYTE,
+        told: "size 2 place 1 front 0 ok 0 err 1 bit 0:2 means err free 0:252",
+    },
+    Row {
+        ok: THREE_BYTES,
+        err: PAIR,
+        told: "size 4 place 0 front 0 ok 0 err 0 bit 3:1 means err free 3:254",
+    },
+];
+
+#[test]
+fn placements_of_two_layouts(rt: HostRuntime) -> Result<(), Fail> {
+    for row in &ROWS {
+        let ok = row.ok.layout(rt.alloc())?;
+        let err = row.err.layout(rt.alloc())?;
+        let told = placed(rt.alloc(), &ok, &err)?;
+        assert_eq!(rt; told.as_str(), row.told);
+    }
+    Ok(())
+}
+
+#[test]
+fn the_layout_of_a_sum(rt: HostRuntime) -> Result<(), Fail> {
+    let byte = BYTE.layout(rt.alloc())?;
+    let p = placement(rt.alloc(), &byte, &byte)?;
+    assert!(rt; sum_size(&byte, &byte, &p) == 2);
+    let sum = sum_layout(rt.alloc(), &byte, &byte, &p)?;
+    assert_eq!(rt;
+        (sum.size(), sum.align(), sum.indirections()),
+        (2, 1, false)
+    );
+    assert_eq!(rt;
+        (sum.unused().byte_at(0), sum.unused().byte_at(1)),
+        (254, 0)
+    );
+    Ok(())
+}
+
+#[test]
+fn the_refusal_of_a_tag_holds(rt: HostRuntime) -> Result<(), Fail> {
+    let byte = BYTE.layout(rt.alloc())?;
+    for (place, holds) in [(0, true), (1, false)] {
+        let refusal = Refusal {
+            place,
+            smaller: Items::new(rt.alloc()),
+            larger: Items::new(rt.alloc()),
+        };
+        assert_eq!(rt;
+            check_refusal(&byte, &byte, &refusal),
+            holds,
+            "place {place}"
+        );
+    }
+    Ok(())
+}
+
+#[test]
+fn a_refusal_may_name_any_blocking_byte(rt: HostRuntime) -> Result<(), Fail> {
+    let ok = NON_ZERO_PAIR.layout(rt.alloc())?;
+    let err = PAIR.layout(rt.alloc())?;
+    for (named, holds) in [(0, true), (1, true), (2, false)] {
+        let refusal = Refusal {
+            place: 0,
+            smaller: Items::new(rt.alloc()),
+            larger: Items::from_slice(rt.alloc(), &[named])?,
+        };
+        assert_eq!(rt; check_refusal(&ok, &err, &refusal), holds, "byte {named}");
+    }
+    Ok(())
+}
+
+#[test]
+fn a_tag_changes_its_own_bit(rt: HostRuntime) {
+    let tag = Determinant {
+        not: false,
+        test: Test::BitDeterminant,
+    };
+    let mut bytes = [6, 7];
+    tag.err(&mut bytes);
+    assert!(rt; !tag.is_det_ok(&bytes));
+    assert_eq!(rt; bytes, [7, 7]);
+    tag.ok(&mut bytes);
+    assert!(rt; tag.is_det_ok(&bytes));
+    assert_eq!(rt; bytes, [6, 7]);
+    assert!(rt; !tag.is_niche_trick());
+}

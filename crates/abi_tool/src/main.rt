@@ -1,0 +1,59 @@
+//! Layouts of stabby types, computed at run time: the program.
+#![tactic(auto)]
+
+mod answer;
+mod command;
+mod desc;
+mod document;
+mod failed;
+mod fault;
+mod image;
+mod job;
+mod mem_sink;
+mod mem_source;
+mod pack;
+#[cfg(test)]
+mod pack_tests;
+mod primitive;
+mod read_all;
+mod reading;
+mod reply;
+mod run_document;
+mod sink;
+mod source;
+mod std_sink;
+mod std_source;
+#[cfg(test)]
+mod tests;
+mod text;
+mod tool;
+mod value;
+mod write_all;
+
+use abi_num::Text;
+use std::env;
+use std::io::{Error, ErrorKind};
+use std::process::ExitCode;
+use std_sink::StdSink;
+use std_source::StdSource;
+
+fn main(rt: HostRuntime) -> ExitCode {
+    match words_of(&rt) {
+        Ok(words) => {
+            let mut source = StdSource::new(rt.stdin());
+            let mut sink = StdSink::new(rt.stdout());
+            ExitCode::from(tool::tool(rt.alloc(), &words, &mut source, &mut sink))
+        }
+        Err(error) if error.kind() == ErrorKind::OutOfMemory => ExitCode::from(8),
+        Err(_) => ExitCode::from(1),
+    }
+}
+
+// The words after the program's name.
+fn words_of(rt: &HostRuntime) -> Result<Vec<Text>, Error> {
+    let mut words = Vec::new(rt.alloc());
+    for word in env::args(rt)?.skip(1) {
+        words.push(Text::from(word))?;
+    }
+    Ok(words)
+}

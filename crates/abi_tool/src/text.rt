@@ -1,0 +1,238 @@
+//! The lines that the program writes.
+
+ghost use Rattle.std.specs.Prelude.{◌≡◌, ◌++◌, List, ℕ, IfOk, OnOk, string_bytes, flat_map};
+ghost use Rattle.abi_bits.specs.Forbidden.{items};
+ghost use Rattle.abi_tool.specs.Lines.{size_line, align_line, niches_line, indirections_line, entry_text, entries_text, free_line, pair_text, pairs_text, more_pairs_text, items_text, forbidden_line, layout_lines, side_text, niche_text, meaning_text, places_text, sum_line, sum_lines, bytes_line, image_text, refused_line};
+
+use crate::fault::Fault;
+use crate::image::{Image, Placed};
+use abi_bits::{BitMask, ForbiddenValues, SaturatingAddValue};
+use abi_det::{Kind, Layout, Test};
+use abi_num::{OutOfMemory, Text};
+use std::alloc::{AllocError, Global};
+use std::fmt::Write;
+
+/// The lines of a packed value: its layout, its sums and its bytes.
+#[tactic(auto, unfolding(crate::specs::Lines::image_text))]
+pub fn text_of(alloc: Global, image: &Image) -> Result<Text, OutOfMemory>
+    ensures { IfOk result (λ text. text ≡ image_text image.now) }
+{
+    let mut out = String::new(alloc);
+    push_layout(&mut out, &image.layout)?;
+    push_sums(&mut out, image.placed.as_slice())?;
+    push_bytes(alloc, &mut out, image.bytes.as_slice())?;
+    Ok(Text::from(out))
+}
+
+/// The line of a job that cannot be done.
+#[tactic(auto, unfolding(crate::specs::Lines::refused_line))]
+pub fn refused(alloc: Global, fault: Fault) -> Result<Text, OutOfMemory>
+    ensures { IfOk result (λ text. text ≡ refused_line fault) }
+{
+    let line = format!(in alloc; "refused: {fault}\n")?;
+    Ok(Text::from(line))
+}
+
+#[tactic(auto, unfolding(crate::specs::Lines::layout_lines))]
+fn push_layout(out: &mut String, layout: &Layout) -> Result<(), AllocError>
+    ensures { OnOk result (string_bytes out.new ≡ string_bytes out.old ++ layout_lines layout.now) }
+{
+    push_size(out, layout.size())?;
+    push_align(out, layout.align())?;
+    push_niches(out, layout.niches())?;
+    push_indirections(out, layout.indirections())?;
+    push_free(out, layout.unused())?;
+    push_forbidden(out, layout.forbidden())
+}
+
+#[tactic(auto, unfolding(crate::specs::Lines::size_line))]
+fn push_size(out: &mut String, size: u64) -> Result<(), AllocError>
+    ensures { OnOk result (string_bytes out.new ≡ string_bytes out.old ++ size_line size) }
+{
+    write!(out, "size {size}\n")
+}
+
+#[tactic(auto, unfolding(crate::specs::Lines::align_line))]
+fn push_align(out: &mut String, align: u64) -> Result<(), AllocError>
+    ensures { OnOk result (string_bytes out.new ≡ string_bytes out.old ++ align_line align) }
+{
+    write!(out, "align {align}\n")
+}
+
+#[tactic(auto, unfolding(crate::specs::Lines::niches_line))]
+fn push_niches(out: &mut String, niches: SaturatingAddValue) -> Result<(), AllocError>
+    ensures { OnOk result (string_bytes out.new ≡ string_bytes out.old ++ niches_line niches) }
+{
+    match niches {
+        SaturatingAddValue::B0 => out.push_str("niches 0\n"),
+        SaturatingAddValue::B1 => out.push_str("niches 1\n"),
+        SaturatingAddValue::Saturator => out.push_str("niches many\n"),
+    }
+}
+
+#[tactic(auto, unfolding(crate::specs::Lines::indirections_line))]
+fn push_indirections(out: &mut String, indirections: bool) -> Result<(), AllocError>
+    ensures { OnOk result (string_bytes out.new ≡ string_bytes out.old ++ indirections_line indirections) }
+{
+    out.push_str(if indirections {
+        "indirections yes\n"
+    } else {
+        "indirections no\n"
+    })
+}
+
+#[tactic(auto, unfolding(crate::specs::Lines::free_line))]
+fn push_free(out: &mut String, free: &BitMask) -> Result<(), AllocError>
+    ensures { OnOk result (string_bytes out.new ≡ string_bytes out.old ++ free_line free.now) }
+{
+    out.push_str("free")?;
+    push_entries(out, free)?;
+    out.push_str("\n")
+}
+
+#[tactic(auto, unfolding(crate::specs::Lines::entries_text))]
+fn push_entries(out: &mut String, free: &BitMask) -> Result<(), AllocError>
+    ensures { OnOk result (string_bytes out.new ≡ string_bytes out.old ++ entries_text free.now) }
+{
+    let mut from = 0;
+    'entries: while let Some((offset, mask)) = free.next_entry(from) {
+        push_entry(out, offset, mask)?;
+        from = offset + 1;
+    }
+    Ok(())
+}
+
+fn push_entry(out: &mut String, offset: u64, mask: u8) -> Result<(), AllocError>
+    ensures { OnOk result (string_bytes out.new ≡ string_bytes out.old ++ entry_text (offset, mask)) }
+{
+    write!(out, " {offset}:{mask}")
+}
+
+#[tactic(auto, unfolding(crate::specs::Lines::forbidden_line))]
+fn push_forbidden(out: &mut String, forbidden: &ForbiddenValues) -> Result<(), AllocError>
+    ensures { OnOk result (string_bytes out.new ≡ string_bytes out.old ++ forbidden_line (items forbidden.now)) }
+{
+    out.push_str("forbidden")?;
+    push_items(out, forbidden)?;
+    out.push_str("\n")
+}
+
+#[tactic(auto, unfolding(crate::specs::Lines::items_text, crate::specs::Lines::item_text))]
+fn push_items(out: &mut String, forbidden: &ForbiddenValues) -> Result<(), AllocError>
+    ensures { OnOk result (string_bytes out.new ≡ string_bytes out.old ++ items_text (items forbidden.now)) }
+{
+    match forbidden {
+        ForbiddenValues::End => Ok(()),
+        ForbiddenValues::Array(pattern) => {
+            out.push_str(" ")?;
+            push_pairs(out, pattern.pairs())
+        }
+        ForbiddenValues::ForbiddenRange { min, max, offset } => {
+            write!(out, " {offset}={min}-{max}")
+        }
+        ForbiddenValues::Or(left, right) => {
+            push_items(out, left)?;
+            push_items(out, right)
+        }
+    }
+}
+
+#[tactic(auto, unfolding(crate::specs::Lines::pairs_text))]
+fn push_pairs(out: &mut String, pairs: &[(u64, u8)]) -> Result<(), AllocError>
+    ensures { OnOk result (string_bytes out.new ≡ string_bytes out.old ++ pairs_text pairs.now) }
+{
+    match pairs.split_first() {
+        Some(((offset, byte), more)) => {
+            write!(out, "{offset}={byte}")?;
+            push_more_pairs(out, more)
+        }
+        None => Ok(()),
+    }
+}
+
+#[tactic(auto, unfolding(crate::specs::Lines::more_pairs_text))]
+fn push_more_pairs(out: &mut String, pairs: &[(u64, u8)]) -> Result<(), AllocError>
+    ensures { OnOk result (string_bytes out.new ≡ string_bytes out.old ++ more_pairs_text pairs.now) }
+{
+    for (offset, byte) in pairs {
+        write!(out, ",{offset}={byte}")?;
+    }
+    Ok(())
+}
+
+#[tactic(auto, unfolding(crate::specs::Lines::sum_lines))]
+fn push_sums(out: &mut String, sums: &[Placed]) -> Result<(), AllocError>
+    ensures { OnOk result (string_bytes out.new ≡ string_bytes out.old ++ sum_lines sums.now) }
+{
+    for sum in sums {
+        push_sum(out, sum)?;
+    }
+    Ok(())
+}
+
+#[tactic(auto, unfolding(crate::specs::Lines::sum_line))]
+fn push_sum(out: &mut String, sum: &Placed) -> Result<(), AllocError>
+    ensures { OnOk result (string_bytes out.new ≡ string_bytes out.old ++ sum_line sum.now) }
+{
+    push_places(out, sum)?;
+    push_niche(out, sum.kind, &sum.determinant.test)?;
+    push_meaning(out, sum.determinant.not)
+}
+
+#[tactic(auto, unfolding(crate::specs::Lines::places_text))]
+fn push_places(out: &mut String, sum: &Placed) -> Result<(), AllocError>
+    ensures { OnOk result (string_bytes out.new ≡ string_bytes out.old ++ places_text sum.now) }
+{
+    write!(
+        out,
+        "sum {} place {} front {}",
+        sum.part, sum.place, sum.front
+    )?;
+    write!(out, " ok {} err {} ", sum.ok_shift, sum.err_shift)
+}
+
+#[tactic(auto, unfolding(crate::specs::Lines::niche_text))]
+fn push_niche(out: &mut String, kind: Kind, test: &Test) -> Result<(), AllocError>
+    ensures { OnOk result (string_bytes out.new ≡ string_bytes out.old ++ niche_text kind test.now) }
+{
+    match test {
+        Test::BitDeterminant => out.push_str("tag"),
+        Test::ValueIsErr(pattern) => {
+            push_side(out, kind)?;
+            push_pairs(out, pattern.pairs())
+        }
+        Test::BitIsErr { offset, mask } => write!(out, "bit {offset}:{mask}"),
+    }
+}
+
+fn push_side(out: &mut String, kind: Kind) -> Result<(), AllocError>
+    ensures { OnOk result (string_bytes out.new ≡ string_bytes out.old ++ side_text kind) }
+{
+    match kind {
+        Kind::SmallerPattern => out.push_str("smaller "),
+        _ => out.push_str("larger "),
+    }
+}
+
+#[tactic(auto, unfolding(crate::specs::Lines::meaning_text))]
+fn push_meaning(out: &mut String, means_ok: bool) -> Result<(), AllocError>
+    ensures { OnOk result (string_bytes out.new ≡ string_bytes out.old ++ meaning_text means_ok) }
+{
+    out.push_str(if means_ok {
+        " means ok\n"
+    } else {
+        " means err\n"
+    })
+}
+
+#[tactic(auto, unfolding(crate::specs::Lines::bytes_line))]
+fn push_bytes(alloc: Global, out: &mut String, bytes: &[u8]) -> Result<(), AllocError>
+    ensures { OnOk result (string_bytes out.new ≡ string_bytes out.old ++ bytes_line bytes.now) }
+{
+    out.push_str("bytes")?;
+    if !bytes.is_empty() {
+        out.push_str(" ")?;
+        out.push_str(hex::encode(alloc, bytes)?.as_str())?;
+    }
+    out.push_str("\n")
+}
