@@ -53,8 +53,8 @@ pub fn entries_lie_below()
     ensures { EntriesLieBelow }
 {}
 
-#[tactic(auto, using(crate::proofs::Counts::associative))]
 /// Adding niche counts does not depend on how they are grouped.
+#[tactic(auto, using(crate::proofs::Counts::associative))]
 pub fn addition_is_associative(a: SaturatingAddValue, b: SaturatingAddValue, c: SaturatingAddValue)
     ensures { added (added a b) c ≡ added a (added b c) }
 {}
