@@ -1,19 +1,5 @@
-use crate::mem_sink::MemSink;
-use crate::mem_source::MemSource;
-use crate::tool::tool;
-use abi_num::{OutOfMemory, Text};
-use std::alloc::Global;
+use crate::tests::is_reply;
 use std::test::Fail;
-
-// Whether `pack` answers the document with this status and text.
-fn is_packed(alloc: Global, document: &str, status: u8, text: &str) -> Result<bool, OutOfMemory> {
-    let mut words = Vec::new(alloc);
-    words.push(Text::new(alloc, "pack")?)?;
-    let mut source = MemSource::new(document.as_bytes(), &[]);
-    let mut sink = MemSink::new(alloc, 256, &[])?;
-    let ended = tool(alloc, &words, &mut source, &mut sink);
-    Ok(ended == status && sink.got() == text.as_bytes())
-}
 
 #[test]
 fn options_of_primitives_are_packed(rt: HostRuntime) -> Result<(), Fail> {
@@ -44,7 +30,7 @@ fn options_of_primitives_are_packed(rt: HostRuntime) -> Result<(), Fail> {
         )?;
         let text = format!(in rt.alloc(); "{lines}bytes {bytes}\n")?;
         assert!(rt;
-            is_packed(rt.alloc(), document.as_str(), 0, text.as_str())?,
+            is_reply(rt.alloc(), document.as_bytes(), 0, text.as_str())?,
             "{document}"
         );
     }
@@ -66,7 +52,7 @@ fn values_that_no_option_has_are_refused(rt: HostRuntime) -> Result<(), Fail> {
             "{{\"target\":\"le64\",\"desc\":{{\"option\":\"{primitive}\"}},\"value\":{{\"some\":{value}}}}}"
         )?;
         assert!(rt;
-            is_packed(rt.alloc(), document.as_str(), 7, "refused: WrongValue\n")?,
+            is_reply(rt.alloc(), document.as_bytes(), 7, "refused: WrongValue\n")?,
             "{document}"
         );
     }
@@ -103,7 +89,7 @@ fn documents_have_exactly_their_form(rt: HostRuntime) -> Result<(), Fail> {
     ];
     for document in documents {
         assert!(rt;
-            is_packed(rt.alloc(), document, 6, "not a job\n")?,
+            is_reply(rt.alloc(), document.as_bytes(), 6, "not a job\n")?,
             "{document}"
         );
     }
@@ -116,6 +102,6 @@ fn a_repeated_key_keeps_its_last_value(rt: HostRuntime) -> Result<(), Fail> {
         "{\"value\":7,\"target\":\"le64\",\"desc\":{\"option\":\"bool\"},\"value\":{\"some\":9,\"some\":true}}";
     let text =
         "size 1\nalign 1\nniches 0\nindirections no\nfree\nforbidden\nsum 1 place 0 front 0 ok 0 err 0 larger 0=2 means err\nbytes 01\n";
-    assert!(rt; is_packed(rt.alloc(), document, 0, text)?);
+    assert!(rt; is_reply(rt.alloc(), document.as_bytes(), 0, text)?);
     Ok(())
 }

@@ -21,8 +21,8 @@ pub enum Primitive {
 
 impl Primitive {
     /// Size in bytes.
-    pub fn size(self, _target: &Target) -> usize
-        ensures { result ≡ (primitive_frame _target.now self).size }
+    pub fn size(self, target: &Target) -> usize
+        ensures { result ≡ (primitive_frame target.now self).size }
     {
         match self {
             Primitive::Bool => 1,
@@ -35,7 +35,6 @@ impl Primitive {
     pub fn fits(self, target: &Target, scalar: Scalar) -> bool
         ensures { result ≡ is_some (stored target.now self scalar) }
     {
-        let _little = target.little;
         match (self, scalar) {
             (Primitive::Bool, Scalar::Bool(_)) => true,
             (
@@ -69,8 +68,8 @@ impl Primitive {
     }
 
     /// The layout.
-    pub fn layout(self, alloc: Global, _target: &Target) -> Result<Layout, OutOfMemory>
-        ensures { IfOk result (λ layout. layout ≡ primitive_frame _target.now self) }
+    pub fn layout(self, alloc: Global, target: &Target) -> Result<Layout, OutOfMemory>
+        ensures { IfOk result (λ layout. layout ≡ primitive_frame target.now self) }
     {
         match self {
             Primitive::Bool => {

@@ -5,7 +5,7 @@ use abi_num::{OutOfMemory, Text};
 use std::alloc::Global;
 use std::test::Fail;
 
-const ROOM: usize = 64;
+const ROOM: usize = 256;
 
 // The status of the program with these words.
 fn run(
@@ -22,7 +22,12 @@ fn run(
 }
 
 // Whether `pack` answers the document with this status and text.
-fn is_reply(alloc: Global, document: &[u8], status: u8, text: &str) -> Result<bool, OutOfMemory> {
+pub fn is_reply(
+    alloc: Global,
+    document: &[u8],
+    status: u8,
+    text: &str,
+) -> Result<bool, OutOfMemory> {
     let mut source = MemSource::new(document, &[]);
     let mut sink = MemSink::new(alloc, ROOM, &[])?;
     let ended = run(alloc, &["pack"], &mut source, &mut sink)?;
