@@ -26,8 +26,8 @@ followed_is_mask by es fs out m n b w q =
     let z = mask_parts (moved_pairs by fs) (moved_is_mask by fs (moved_pairs by fs) n w refl) in
     let r : are_rising by (moved_pairs by fs) ≡ true = rising_lower (moved_pairs by fs) (0 + by) by (omega arith) (moved_rising by fs 0 y.0 w) in
     rw q (and_from (are_rising 0 (es ++ moved_pairs by fs)) (have_bits (es ++ moved_pairs by fs))
-      (followed_rises by es (moved_pairs by fs) 0 x.0 b (omega arith) r)
-      (list_all-append (λ e. ltb 0 e.1 && ltb e.1 256) es (moved_pairs by fs) ∙ and_from (have_bits es) (have_bits (moved_pairs by fs)) x.1 z.1))
+    (followed_rises by es (moved_pairs by fs) 0 x.0 b (omega arith) r)
+    (list_all-append (λ e. ltb 0 e.1 && ltb e.1 256) es (moved_pairs by fs) ∙ and_from (have_bits es) (have_bits (moved_pairs by fs)) x.1 z.1))
 
 pub followed_bytes : (by : ℕ) (es fs out : List Pair) → out ≡ es ++ moved_pairs by fs
     → (at : ℕ) → mask_at out at ≡ bit_or (mask_at es at) (cond (leb by at) (mask_at fs (at - by)) 0)

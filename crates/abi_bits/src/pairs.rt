@@ -72,7 +72,11 @@ pub(crate) fn push_some(entries: &mut Pairs, at: u64, mask: u8) -> Result<(), Ou
 }
 
 /// Adds these pairs, `by` bytes further on.
-pub(crate) fn push_moved(entries: &mut Pairs, pairs: &[(u64, u8)], by: u64) -> Result<(), OutOfMemory>
+pub(crate) fn push_moved(
+    entries: &mut Pairs,
+    pairs: &[(u64, u8)],
+    by: u64,
+) -> Result<(), OutOfMemory>
     requires { IsTrue (are_below 1048576 (moved_pairs by pairs.now)) }
     ensures { OnOk result (entries.new ≡ entries.old ++ moved_pairs by pairs.now) }
 {

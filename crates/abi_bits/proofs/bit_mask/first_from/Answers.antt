@@ -18,7 +18,7 @@ pub returns-then-low-entries : goal.returns-then-low-entries
 returns-then-low-entries c =
     let same : c.loop-low.low ≡ c.loop-low.high = omega (arith, c.loop-low.invariant.ends) in
     first_some c.args.entries.now c.args.from c.loop-low.low _ c.if-low-entries.true c.loop-low.invariant.before
-      (rw same (c.loop-low.invariant.past _ (omega (arith, c.if-low-entries.true))))
+    (rw same (c.loop-low.invariant.past _ (omega (arith, c.if-low-entries.true))))
 
 pub returns-else-low-entries : goal.returns-else-low-entries
 returns-else-low-entries c =

@@ -1,0 +1,11 @@
+pub mod Bytes
+pub mod Faultless
+pub mod Folding
+pub mod Making
+pub mod Opening
+pub mod Rows
+pub mod Sounding
+pub mod Steps
+pub mod Views
+pub mod WorkedRows
+pub mod Zeros

@@ -1,0 +1,20 @@
+-- The plain tree of a description, by variant.
+use Rattle.std.proofs.Common.{◌≡◌, ℕ, suc, ◌+◌, ◌<◌, List, ◌∷◌, Option, length, get_or, drop, refl, sym, ap, ◌∙◌, arith, drop-cons, rules}
+use Rattle.abi_layout.specs.declared.prim.Prim.{Prim}
+use Rattle.abi_layout.specs.declared.desc.Desc.{the_lemmas}
+use Rattle.abi_layout.specs.declared.desc.Desc.TheVariants as desc
+use Rattle.abi_layout.specs.declared.desc.Field.{Field}
+use Rattle.abi_layout.specs.Trees.{tree, branches, prim, struct, field}
+
+pub tree_prim : (p : Prim) → tree (desc.Prim p) ≡ prim p
+tree_prim p = search (rules, the_lemmas)
+
+pub tree_struct : (name module_name : List ℕ) (version : ℕ) (fs : List Field) (align : Option ℕ)
+    → tree (desc.Struct name module_name version fs align) ≡ struct (record { name = name; module_name = module_name; version = version }) (branches fs) align
+tree_struct name module_name version fs align = search (rules, the_lemmas)
+
+pub branches_at : (fs : List Field) (i : ℕ) (x : Field) → i < length fs → x ≡ get_or fs i x → branches (drop i fs) ≡ field x.name (tree x.ty) (branches (drop (i + 1) fs))
+branches_at fs i x lt q =
+    let s : i + 1 ≡ suc i = omega arith in
+    let c : drop i fs ≡ x ∷ drop (suc i) fs = drop-cons fs i x lt ∙ ap (λ y. y ∷ drop (suc i) fs) (sym q) in
+    rw (s, c) refl

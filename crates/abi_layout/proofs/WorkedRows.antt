@@ -1,0 +1,121 @@
+-- Frames of small types, worked out by hand.
+use Rattle.std.proofs.Common.{◌≡◌, refl, ℕ, [], ◌∷◌, true, false, Some, None}
+use Rattle.abi_num.specs.declared.target.Target.{Target}
+use Rattle.abi_bits.specs.Mask.{entries_below}
+use Rattle.abi_bits.specs.Forbidden.{pattern, range}
+use Rattle.abi_bits.specs.declared.saturating_add_value.SaturatingAddValue.TheVariants as count
+use Rattle.abi_det.specs.Frame.{Frame}
+use Rattle.abi_det.specs.Offers.{One, offer_at, first_offer}
+use Rattle.abi_det.specs.Written.{written_placement, written_sum, refusals_below}
+use Rattle.abi_layout.specs.Builders.{after, pair, rounded_to, closed, closed_at, overlaid, repeated}
+use Rattle.abi_layout.specs.Structs.{struct_frame}
+use Rattle.abi_layout.specs.Prims.{prim_frame}
+use Rattle.abi_layout.specs.Trees.{Tree, Label, prim, struct, result, option, none, field}
+use Rattle.abi_layout.specs.Frames.{written_frame}
+use Rattle.abi_layout.specs.Faults.{desc_fault}
+use Rattle.abi_layout.specs.declared.prim.Prim.TheVariants as the
+use Rattle.abi_layout.specs.declared.desc_error.DescError.TheVariants as fault
+
+le64 : Target
+le64 = record { little = true; pointer = 8; u64_align = 8; u128_align = 16 }
+
+le32o : Target
+le32o = record { little = true; pointer = 4; u64_align = 4; u128_align = 16 }
+
+plain : ℕ → ℕ → Frame
+plain size align = record { size = size; align = align; free = []; forbids = []; head = None; niches = count.B0; indirections = false }
+
+bool_frame : Frame
+bool_frame = record { size = 1; align = 1; free = []; forbids = range 0 2 255 ∷ []; head = Some ((0, 2) ∷ []); niches = count.Saturator; indirections = false }
+
+non_zero_byte : Frame
+non_zero_byte = record { size = 1; align = 1; free = []; forbids = pattern ((0, 0) ∷ []) ∷ []; head = Some ((0, 0) ∷ []); niches = count.B1; indirections = false }
+
+after_three : after (plain 2 2) 3 ≡ record (plain 6 2) { free = (3, 255) ∷ [] }
+unfolding after entries_below plain
+after_three = refl
+
+word_and_bool : Frame
+word_and_bool = record { size = 5; align = 4; free = []; forbids = range 4 2 255 ∷ []; head = None; niches = count.Saturator; indirections = false }
+
+pair_of_word_and_bool : pair (plain 4 4) bool_frame ≡ word_and_bool
+unfolding pair entries_below plain bool_frame word_and_bool
+pair_of_word_and_bool = refl
+
+whole_word_and_bool : closed word_and_bool ≡ record word_and_bool { size = 8; free = (5, 255) ∷ (6, 255) ∷ (7, 255) ∷ [] }
+unfolding rounded_to entries_below word_and_bool
+whole_word_and_bool = refl
+
+word_and_byte : pair (plain 4 4) (plain 1 1) ≡ plain 5 4
+unfolding pair entries_below plain
+word_and_byte = refl
+
+-- bytes 8 to 15 are not free
+sixteen : closed_at (plain 5 4) 16 ≡ record (plain 16 16) { free = (5, 255) ∷ (6, 255) ∷ (7, 255) ∷ []; niches = count.Saturator }
+unfolding rounded_to entries_below plain
+sixteen = refl
+
+sixteen_by_positions : struct_frame (plain 4 4 ∷ plain 1 1 ∷ []) (Some 16) ≡ record (plain 16 16) { free = (5, 255) ∷ (6, 255) ∷ (7, 255) ∷ []; niches = count.Saturator }
+unfolding struct_frame entries_below plain
+sixteen_by_positions = refl
+
+one_bool : repeated bool_frame 1 ≡ bool_frame
+unfolding repeated bool_frame
+one_bool = refl
+
+two_bools : repeated bool_frame 2 ≡ record (plain 2 1) { niches = count.Saturator }
+unfolding repeated bool_frame plain
+two_bools = refl
+
+no_bools : repeated bool_frame 0 ≡ plain 0 1
+unfolding repeated bool_frame plain
+no_bools = refl
+
+word_or_byte : overlaid (plain 4 4) (plain 1 1) ≡ plain 4 4
+unfolding overlaid plain
+word_or_byte = refl
+
+old_word : prim_frame le32o the.U64 ≡ plain 8 4
+unfolding prim_frame plain le32o
+old_word = refl
+
+one_niche : pair (plain 1 1) non_zero_byte
+    ≡ record { size = 2; align = 1; free = []; forbids = pattern ((1, 0) ∷ []) ∷ []; head = None; niches = count.B1; indirections = false }
+unfolding pair entries_below plain non_zero_byte
+one_niche = refl
+
+many_niches : pair non_zero_byte non_zero_byte
+    ≡ record { size = 2; align = 1; free = []; forbids = pattern ((0, 0) ∷ []) ∷ pattern ((1, 0) ∷ []) ∷ []; head = Some ((0, 0) ∷ []); niches = count.Saturator; indirections = false }
+unfolding pair entries_below non_zero_byte
+many_niches = refl
+
+empty_struct : struct_frame [] None ≡ plain 0 1
+unfolding struct_frame entries_below plain
+empty_struct = refl
+
+label : Label
+label = record { name = []; module_name = []; version = 0 }
+
+-- a byte, then two bytes, with a byte between that is free
+pair_tree : Tree
+pair_tree = struct label (field [] (prim the.U8) (field [] (prim the.NonZeroU16) none)) None
+
+byte_and_word : written_frame One le64 pair_tree
+    ≡ record { size = 4; align = 2; free = (1, 255) ∷ []; forbids = pattern ((2, 0) ∷ (3, 0) ∷ []) ∷ []; head = None; niches = count.Saturator; indirections = false }
+unfolding struct_frame prim_frame entries_below pair_tree le64 label
+byte_and_word = refl
+
+tagged_bytes : written_frame One le64 (result (result (prim the.U8) (prim the.U8)) (prim the.U8))
+    ≡ record (plain 2 1) { free = (0, 252) ∷ [] }
+unfolding written_sum written_placement first_offer offer_at entries_below refusals_below prim_frame plain le64 lib.Count.count_trailing_zeros
+tagged_bytes = refl
+
+-- the second field's request is refused: it is part 3, after the three parts before it
+ill_formed : desc_fault One le64 (struct label (field [] (option (prim the.Bool)) (field [] (struct label (field [] (prim the.U8) none) (Some 3)) none)) None)
+    ≡ Some (fault.IllFormed 3)
+unfolding desc_fault label written_sum written_placement first_offer offer_at entries_below refusals_below prim_frame le64 lib.Count.ones
+ill_formed = refl
+
+bad_target : desc_fault One (record { little = true; pointer = 3; u64_align = 8; u128_align = 16 }) (prim the.U8) ≡ Some fault.BadTarget
+unfolding desc_fault
+bad_target = refl

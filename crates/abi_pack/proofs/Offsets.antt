@@ -1,0 +1,102 @@
+-- Parts that stand at an offset in bytes.
+use Rattle.std.proofs.Common.{◌≡◌, ℕ, ◌+◌, List, [], ◌∷◌, ◌++◌, ◌-◌, ◌≤◌, length, take, drop, length-drop, Bool, true, false, cond, ◌&&◌, refl, ap, ◌∙◌, sym, arith}
+use mathlib.Core.Path.{fun_ext}
+use Rattle.std.proofs.lemmas.List.{get_or-drop}
+use Rattle.std.proofs.Math.Seq.{take-length}
+use Rattle.std.specs.declared.boxed.Box.{Box}
+use Rattle.std.specs.declared.alloc.Global.{Global}
+use Rattle.abi_det.specs.State.{is_state_ok, IsCovered}
+use Rattle.abi_det.specs.declared.determinant.Determinant.{Determinant}
+use Rattle.abi_pack.specs.Image.{Image, from, bytes_of}
+use Rattle.abi_pack.specs.Plain.{Plain, Plains, list, variant, end, more}
+use Rattle.abi_pack.specs.Shape.{size}
+use Rattle.abi_pack.specs.Sound.{IsSound}
+use Rattle.abi_pack.specs.Told.{is_shown, is_shown_in, told, told_in}
+use Rattle.abi_pack.specs.View.{shape, shapes, plain, plains, joined}
+use Rattle.abi_pack.specs.declared.part.Sort.{Sort}
+use Rattle.abi_pack.specs.declared.part.Spot.{Spot}
+use Rattle.abi_pack.specs.declared.part.PartField.{PartField}
+use Rattle.abi_pack.specs.declared.part.Part.{Part}
+use Rattle.abi_pack.specs.declared.part.Part.TheVariants as part
+use Rattle.abi_pack.specs.declared.value.Value.{Value}
+use Rattle.abi_pack.specs.declared.value.Value.TheVariants as value
+use Rattle.abi_pack.proofs.Views.{shape_sum, plain_list}
+use Rattle.abi_pack.proofs.Steps.{struct_is, sum_covered_at}
+
+pub from_from : (f : Image) (x at o : ℕ) → x ≡ at + o → from x f ≡ from o (from at f)
+from_from f x at o e = fun_ext (λ i. ap f (omega arith))
+
+pub dropped : (xs : List ℕ) (at : ℕ) → bytes_of (drop at xs) ≡ from at (bytes_of xs)
+dropped xs at = fun_ext (λ i. get_or-drop at xs i 0)
+
+pub state_at : (d : Determinant) (xs : List ℕ) (at : ℕ) (b : Bool) → b ≡ is_state_ok d (bytes_of (drop at xs)) → is_state_ok d (from at (bytes_of xs)) ≡ b
+state_at d xs at b e = sym (e ∙ ap (is_state_ok d) (dropped xs at))
+
+-- ---- a sum
+
+pub shown_sum : (p : Part) (names : Sort) (a b : Box Part Global) (at : Spot) (first : Bool) (f : Image) (o : ℕ) (r : Bool)
+    → p ≡ part.Sum names a b at → is_state_ok at.determinant (from o f) ≡ first
+    → r ≡ cond first (is_shown (shape a.value) (from (o + at.ok) f)) (is_shown (shape b.value) (from (o + at.err) f))
+    → r ≡ is_shown (shape p) (from o f)
+shown_sum p names a b at true f o r e state is =
+    rw (e, shape_sum names a b at, state) (is ∙ ap (is_shown (shape a.value)) (from_from f (o + at.ok) o at.ok refl))
+shown_sum p names a b at false f o r e state is =
+    rw (e, shape_sum names a b at, state) (is ∙ ap (is_shown (shape b.value)) (from_from f (o + at.err) o at.err refl))
+
+pub told_sum : (p : Part) (names : Sort) (a b : Box Part Global) (at : Spot) (first : Bool) (f : Image) (o : ℕ) (v : Plain)
+    → p ≡ part.Sum names a b at → is_state_ok at.determinant (from o f) ≡ first
+    → v ≡ cond first (told (shape a.value) (from (o + at.ok) f)) (told (shape b.value) (from (o + at.err) f))
+    → variant names first v ≡ told (shape p) (from o f)
+told_sum p names a b at true f o v e state is =
+    rw (e, shape_sum names a b at, state) (ap (variant names true) (is ∙ ap (told (shape a.value)) (from_from f (o + at.ok) o at.ok refl)))
+told_sum p names a b at false f o v e state is =
+    rw (e, shape_sum names a b at, state) (ap (variant names false) (is ∙ ap (told (shape b.value)) (from_from f (o + at.err) o at.err refl)))
+
+-- ---- fields
+
+pub shown_fields : (all fields : List PartField) (one : PartField) (free tail : ℕ) (f : Image) (o x y : ℕ) (p q : Bool) → all ≡ one ∷ fields
+    → x ≡ o + one.gap → y ≡ x + size (shape one.part) → p ≡ is_shown (shape one.part) (from x f) → q ≡ is_shown_in (shapes free tail fields) (from y f)
+    → (p && q) ≡ is_shown_in (shapes free tail all) (from o f)
+shown_fields all fields one free tail f o x y p q e ex ey first rest =
+    rw (e, first, rest, from_from f x o one.gap ex, from_from f y o (one.gap + size (shape one.part)) (omega arith)) refl
+
+pub told_fields : (all fields : List PartField) (one : PartField) (free tail : ℕ) (f : Image) (o x y : ℕ) → all ≡ one ∷ fields
+    → x ≡ o + one.gap → y ≡ x + size (shape one.part)
+    → told_in (shapes free tail all) (from o f) ≡ more (told (shape one.part) (from x f)) (told_in (shapes free tail fields) (from y f))
+told_fields all fields one free tail f o x y e ex ey =
+    rw (e, from_from f x o one.gap ex, from_from f y o (one.gap + size (shape one.part)) (omega arith)) refl
+
+-- ---- the rest of the bytes from an offset on
+
+pub rest_whole : (xs : List ℕ) (at : ℕ) → take (length xs - at) (drop at xs) ≡ drop at xs
+rest_whole xs at = rw (← length-drop at xs) (take-length (drop at xs))
+
+pub state_rest : (d : Determinant) (xs : List ℕ) (at : ℕ) (b : Bool) → b ≡ is_state_ok d (bytes_of (take (length xs - at) (drop at xs))) → is_state_ok d (from at (bytes_of xs)) ≡ b
+state_rest d xs at b e = state_at d xs at b (rw (rest_whole xs at) at e)
+
+pub covered_rest : (p : Part) (names : Sort) (a b : Box Part Global) (at : Spot) (o : ℕ) (xs : List ℕ) → p ≡ part.Sum names a b at → IsSound (shape p) → o + size (shape p) ≤ length xs
+    → IsCovered at.determinant.test (length (take (length xs - o) (drop o xs)))
+covered_rest p names a b at o xs e sound within = rw (rest_whole xs o) (sum_covered_at p names a b at o xs e sound within)
+
+-- ---- values read one after another
+
+pub joined_end : (vs : List Value) → joined vs end ≡ plains vs
+joined_end [] = refl
+joined_end (v ∷ vs) = ap (more (plain v)) (joined_end vs)
+
+pub joined_push : (vs : List Value) (v : Value) (rest : Plains) → joined (vs ++ v ∷ []) rest ≡ joined vs (more (plain v) rest)
+joined_push [] v rest = refl
+joined_push (w ∷ vs) v rest = ap (more (plain w)) (joined_push vs v rest)
+
+pub read_step : (old new pushed : List Value) (v : Value) (all fields : List PartField) (one : PartField) (free tail : ℕ) (f : Image) (o x y : ℕ)
+    → pushed ≡ old ++ v ∷ [] → plain v ≡ told (shape one.part) (from x f) → all ≡ one ∷ fields → x ≡ o + one.gap → y ≡ x + size (shape one.part)
+    → joined new end ≡ joined pushed (told_in (shapes free tail fields) (from y f))
+    → joined new end ≡ joined old (told_in (shapes free tail all) (from o f))
+read_step old new pushed v all fields one free tail f o x y is value cons ex ey rest =
+    rest ∙ rw is (joined_push old v (told_in (shapes free tail fields) (from y f)))
+    ∙ ap (joined old) (ap (λ w. more w (told_in (shapes free tail fields) (from y f))) value ∙ sym (told_fields all fields one free tail f o x y cons ex ey))
+
+pub told_list : (vs old : List Value) (p : Part) (fields all : List PartField) (free tail : ℕ) (f : Image) → p ≡ part.Struct all free tail → fields ≡ all → old ≡ []
+    → joined vs end ≡ joined old (told_in (shapes free tail fields) f) → plain (value.List vs) ≡ told (shape p) f
+told_list vs old p fields all free tail f e same none is =
+    plain_list vs ∙ ap list (sym (joined_end vs) ∙ rw none at is) ∙ sym (ap (λ s. told s f) (struct_is p fields all free tail e same))

@@ -1,0 +1,15 @@
+pub mod Agree
+pub mod Form
+pub mod Image
+pub mod Laws
+pub mod Packed
+pub mod Plain
+pub mod Planned
+pub mod Reading
+pub mod Shape
+pub mod Shows
+pub mod Sound
+pub mod Told
+pub mod View
+pub mod Descriptions
+pub mod PlanLaws

@@ -1,0 +1,64 @@
+//! What holds of packed bytes, whatever the plan: each function's clause is a law.
+
+ghost use Rattle.abi_pack.specs.PlanLaws.{PlanLaw};
+ghost use Rattle.abi_pack.specs.Laws.{CanonicalLaw, UniqueLaw, FitLaw, HeldLaw, FlipLaw, FreeLaw, ChangeLaw, ItemLaw, PackedLaw};
+
+/// Every value that fits has exactly one canonical byte string.
+#[tactic(auto, using(crate::proofs::Lawful::canonical_law))]
+pub fn canonical_bytes()
+    ensures { CanonicalLaw }
+{}
+
+/// Bytes show at most one value.
+#[tactic(auto, using(crate::proofs::Lawful::unique_law))]
+pub fn one_value()
+    ensures { UniqueLaw }
+{}
+
+/// A value that bytes show fits.
+#[tactic(auto, using(crate::proofs::Lawful::fit_law))]
+pub fn shown_value_fits()
+    ensures { FitLaw }
+{}
+
+/// Bytes show a value exactly where they agree with its canonical bytes at every bit that it holds.
+#[tactic(auto, using(crate::proofs::Lawful::held_law))]
+pub fn held_bits_decide()
+    ensures { HeldLaw }
+{}
+
+/// In bytes that show a value, a bit is held exactly where its lone flip leaves bytes that do not show the value.
+#[tactic(auto, using(crate::proofs::Lawful::flip_law))]
+pub fn held_bit_flips()
+    ensures { FlipLaw }
+{}
+
+/// No value holds a free bit.
+#[tactic(auto, using(crate::proofs::Lawful::free_law))]
+pub fn free_bits_are_not_held()
+    ensures { FreeLaw }
+{}
+
+/// Bytes that show a value show it after any change of free bits.
+#[tactic(auto, using(crate::proofs::Lawful::change_law))]
+pub fn free_bits_may_change()
+    ensures { ChangeLaw }
+{}
+
+/// Bytes that show a value match no forbidden item.
+#[tactic(auto, using(crate::proofs::Lawful::item_law))]
+pub fn no_item_matches()
+    ensures { ItemLaw }
+{}
+
+/// Two values have equal canonical bytes exactly where they are equal.
+#[tactic(auto, using(crate::proofs::Lawful::packed_law))]
+pub fn equal_bytes_equal_values()
+    ensures { PackedLaw }
+{}
+
+/// The plan of a description without a fault has the size, the free bits and the forbidden items of its
+/// written frame, and keeps what every plan keeps, so that the laws above hold of it.
+pub fn faultless_is_planned()
+    ensures { PlanLaw }
+{}

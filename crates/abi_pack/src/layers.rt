@@ -1,0 +1,87 @@
+ghost use Rattle.std.specs.Prelude.{◌≡◌, false, MatchOption};
+ghost use Rattle.abi_pack.specs.Plain.{unit as no_bytes, integer, boolean, list, variant, is_unit, is_integer, is_boolean, is_list, is_variant};
+ghost use Rattle.abi_pack.specs.View.{plain, plains};
+
+use crate::part::Sort;
+use crate::value::Value;
+
+/// A value of a sum: what its variants are called, whether it is the first of them, and its payload.
+#[derive(Clone, Copy)]
+pub(crate) struct Variant<'a> {
+    pub(crate) sort: Sort,
+    pub(crate) first: bool,
+    pub(crate) payload: &'a Value,
+}
+
+impl Value {
+    /// Whether it is the value of a type without bytes.
+    pub(crate) fn is_unit(&self) -> bool
+        ensures { result ≡ is_unit (plain self.now) }
+    {
+        matches!(self, Value::Unit)
+    }
+
+    /// The integer: its distance from 0, and whether it lies below 0.
+    pub(crate) fn as_integer(&self) -> Option<(u128, bool)>
+        ensures { MatchOption result (is_integer (plain self.now) ≡ false) (λ r. plain self.now ≡ integer r.0 r.1) }
+    {
+        match self {
+            Value::Int {
+                magnitude,
+                negative,
+            } => Some((*magnitude, *negative)),
+            _ => None,
+        }
+    }
+
+    /// The truth value.
+    pub(crate) fn as_bool(&self) -> Option<bool>
+        ensures { MatchOption result (is_boolean (plain self.now) ≡ false) (λ b. plain self.now ≡ boolean b) }
+    {
+        match self {
+            Value::Bool(truth) => Some(*truth),
+            _ => None,
+        }
+    }
+
+    /// The values of a list.
+    #[tactic(auto, using(crate::proofs::Views::plain_list))]
+    pub(crate) fn as_list(&self) -> Option<&[Value]>
+        ensures { MatchOption result (is_list (plain self.now) ≡ false) (λ vs. plain self.now ≡ list (plains vs.now)) }
+    {
+        match self {
+            Value::List(values) => Some(values.as_slice()),
+            _ => None,
+        }
+    }
+
+    /// The variant; `None` has the payload `unit`, which is `Value::Unit`.
+    pub(crate) fn as_variant<'a>(&'a self, unit: &'a Value) -> Option<Variant<'a>>
+        requires { plain unit.now ≡ no_bytes }
+        ensures { MatchOption result (is_variant (plain self.now) ≡ false) (λ r. plain self.now ≡ variant r.sort r.first (plain r.payload.now)) }
+    {
+        match self {
+            Value::Ok(payload) => Some(Variant {
+                sort: Sort::OfResult,
+                first: true,
+                payload,
+            }),
+            Value::Err(payload) => Some(Variant {
+                sort: Sort::OfResult,
+                first: false,
+                payload,
+            }),
+            Value::Some(payload) => Some(Variant {
+                sort: Sort::OfOption,
+                first: true,
+                payload,
+            }),
+            Value::None => Some(Variant {
+                sort: Sort::OfOption,
+                first: false,
+                payload: unit,
+            }),
+            _ => None,
+        }
+    }
+}

@@ -1,0 +1,23 @@
+//! Values packed into bytes: what bytes show, and how a value is written and read back.
+#![tactic(auto)]
+
+mod fits;
+mod form;
+mod integer;
+pub mod laws;
+mod layers;
+mod part;
+mod plan;
+mod primitive;
+mod read;
+mod shown;
+mod sizes;
+mod step;
+#[cfg(test)]
+mod tests;
+mod value;
+mod write;
+
+pub use plan::{Plan, ReadError};
+pub use step::{Edit, Edits, Step, Steps};
+pub use value::{Bytes, Value, Values};

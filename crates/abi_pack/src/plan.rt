@@ -1,0 +1,105 @@
+ghost use Rattle.std.specs.Prelude.{◌≡◌, ◌↔◌, true, IsTrue, length, slice_index};
+ghost use Rattle.abi_pack.specs.Reading.{IsShown, IsReading};
+ghost use Rattle.abi_pack.specs.Shape.{size as size_of};
+ghost use Rattle.abi_pack.specs.Shows.{fits, IsCanonical};
+ghost use Rattle.abi_pack.specs.View.{shape, plain};
+
+use crate::fits::fits;
+use crate::part::Part;
+use crate::read::read;
+use crate::shown::is_shown;
+use crate::sizes::size;
+use crate::value::Value;
+use crate::write::write;
+use std::alloc::Global;
+use std::marker::Model;
+
+/// Why bytes are not read.
+#[derive(Debug, Clone, Copy, PartialEq, Eq)]
+pub enum ReadError {
+    /// There are not as many bytes as the description has.
+    WrongLength,
+    /// There are as many, and they show no value.
+    IllegalBytes,
+    /// Memory was refused.
+    OutOfMemory,
+}
+
+/// What each byte of a description means: enough to pack its values and to read them back.
+#[derive(Drop)]
+pub struct Plan {
+    part: Part,
+}
+
+impl Model for Plan {
+    ghost use Rattle.abi_pack.specs.declared.part.Part.{Part};
+    ghost use Rattle.abi_pack.specs.contracts.part.Part as e;
+    ghost use Rattle.std.specs.Coded.{codes};
+
+    ghost Value = { Part };
+
+    ghost coded = { Prim.hlevel (codes, e.the_row.coded) };
+
+    ghost use Rattle.abi_pack.specs.Planned.{IsPlanned};
+    ghost use Rattle.abi_pack.specs.View.{shape};
+
+    ghost view = { λ p. p.part };
+
+    ghost invariant = { λ p. IsPlanned (shape p.part) };
+}
+
+impl Plan {
+    ghost use Rattle.abi_pack.specs.Planned.{IsPlanned};
+
+    /// The plan of a part.
+    pub(crate) fn new(part: Part) -> Plan
+        requires { IsPlanned (shape part) }
+        ensures { result ≡ part }
+    {
+        Plan { part }
+    }
+
+    /// Whether the value is one of the description. Takes no memory.
+    pub fn fits(&self, value: &Value) -> bool
+        ensures { result ≡ fits (shape self.now) (plain value.now) }
+    {
+        fits(&self.part, value)
+    }
+
+    /// Writes the canonical bytes of the value, whatever stood there: they show the value, and every bit that it
+    /// does not hold is 0. The value must fit, and `out` must have the size of the description. Takes no memory.
+    #[tactic(auto, using(crate::proofs::Planning::written_canonical))]
+    pub fn write(&self, value: &Value, out: &mut [u8])
+        requires fits { fits (shape self.now) (plain value.now) ≡ true }
+        requires room { length out.old ≡ size_of (shape self.now) }
+        ensures { IsCanonical (shape self.now) (plain value.now) (slice_index out.new) }
+    {
+        write(&self.part, value, out);
+    }
+
+    /// Whether there are as many bytes as the description has, and they show a value. Takes no memory.
+    pub fn shown(&self, bytes: &[u8]) -> bool
+        ensures { IsTrue result ↔ IsShown (shape self.now) bytes.now }
+    {
+        if bytes.len() != size(&self.part) {
+            return false;
+        }
+        is_shown(&self.part, bytes, 0)
+    }
+
+    /// The value that the bytes show.
+    pub fn read(&self, alloc: Global, bytes: &[u8]) -> Result<Value, ReadError>
+        ensures { IsReading (shape self.now) bytes.now result }
+    {
+        if bytes.len() != size(&self.part) {
+            return Err(ReadError::WrongLength);
+        }
+        if !is_shown(&self.part, bytes, 0) {
+            return Err(ReadError::IllegalBytes);
+        }
+        match read(alloc, &self.part, bytes, 0) {
+            Ok(value) => Ok(value),
+            Err(_) => Err(ReadError::OutOfMemory),
+        }
+    }
+}
