@@ -8,8 +8,8 @@ use Rattle.abi_num.specs.Target.{target_rows, same_bool, same_target, is_row}
 use Rattle.abi_num.specs.declared.target.Target.{Target}
 use Rattle.abi_det.specs.Frame.{IsLawful}
 use Rattle.abi_layout.specs.Prims.{prim_frame, unit_frame}
-use Rattle.abi_layout.specs.declared.prim.Prim.{Prim}
-use Rattle.abi_layout.specs.declared.prim.Prim.TheVariants as the
+use Rattle.abi_layout.specs.declared.prim.Primitive.{Primitive}
+use Rattle.abi_layout.specs.declared.prim.Primitive.TheVariants as the
 
 -- both alignments are alignments that divide the integers' widths
 abbrev is_fit : ℕ → ℕ → Bool
@@ -50,7 +50,7 @@ wide_lawful : (size align : ℕ) (free_rest : Bool) → is_alignment align ≡ t
     → (is_alignment align && leb size 1048576 && eqb (size % align) 0 && free_rest) ≡ true
 wide_lawful size align rest a b c d = rw (a, b, c, d) refl
 
-pub prim_lawful : (t : Target) (p : Prim) → is_row t ≡ true → IsLawful (prim_frame t p)
+pub prim_lawful : (t : Target) (p : Primitive) → is_row t ≡ true → IsLawful (prim_frame t p)
 unfolding prim_frame ones
 prim_lawful t the.U64 row = let f = row_fits t row in rw (f.0, f.1) refl
 prim_lawful t the.I64 row = let f = row_fits t row in rw (f.0, f.1) refl

@@ -1,14 +1,14 @@
 -- Where no part has a fault, every part's frame keeps what the frames of layouts keep.
-use Rattle.std.proofs.Common.{◌≡◌, ℕ, ◌+◌, ◌-◌, ◌%◌, ◌<◌, ◌≤◌, Bool, true, false, ◌&&◌, List, [], ◌∷◌, ◌++◌, map, Option, Some, None, cond, leb, ltb, lit<, bit_or, refl, sym, ap, ◌∙◌, inl, inr, add-zero, arith}
+use Rattle.std.proofs.Common.{◌≡◌, ℕ, ◌+◌, ◌-◌, ◌%◌, ◌<◌, ◌≤◌, Bool, true, false, ◌&&◌, List, [], ◌∷◌, ◌++◌, map, Option, Some, None, cond, leb, ltb, lit<, bit_or, refl, sym, ◌∙◌, add-zero, arith}
 use Rattle.std.specs.List.{list_all}
 use Rattle.std.specs.Int.{next_multiple_of}
 use Rattle.std.proofs.lemmas.Nat.{or_lt}
 use Rattle.std.proofs.lemmas.List.{map-append}
 use Rattle.std.proofs.lemmas.List.Folds.{list_all-append}
 use Rattle.std.proofs.Math.Nat.{mod-eq_of_lt}
-use Rattle.std.proofs.lemmas.Bool.{and_parts, and_from, leb-true, le-leb, ltb-true, lt-ltb, cases_lt}
-use Rattle.abi_bits.specs.Pairs.{Pair, are_rising, is_pattern, is_empty, moved_pairs, are_below}
-use Rattle.abi_bits.specs.Mask.{mask_at, entries_below, IsMask}
+use Rattle.std.proofs.lemmas.Bool.{and_parts, and_from, le-leb, ltb-true, lt-ltb}
+use Rattle.abi_bits.specs.Pairs.{Pair, are_rising, is_pattern, moved_pairs, are_below}
+use Rattle.abi_bits.specs.Mask.{mask_at, IsMask}
 use Rattle.abi_bits.specs.Forbidden.{Item, pattern, range, offer, offered, moved_item, is_solid_byte, is_solid_item}
 use Rattle.abi_bits.proofs.Masks.{rising_parts}
 use Rattle.abi_bits.proofs.Entries.{entries_are_mask, mask_at_lt}
@@ -22,11 +22,10 @@ use Rattle.abi_det.proofs.Chosen.{sound_sum}
 use Rattle.abi_det.proofs.Lawful.{parts as lawful_parts}
 use Rattle.abi_det.proofs.Sizes.{alignment_positive, rounded}
 use Rattle.abi_layout.specs.Builders.{start_after, whole_between, byte_from}
-use Rattle.abi_layout.specs.Structs.{Positioned, positions, end_of, fields_align, requested_align, fields_byte, fields_items, first_head, struct_frame}
-use Rattle.abi_layout.proofs.Bytes.{byte_inside, byte_before}
+use Rattle.abi_layout.specs.Structs.{positions, end_of, fields_align, fields_byte, fields_items, first_head, struct_frame}
 use Rattle.abi_layout.specs.declared.desc_error.DescError.{DescError}
-use Rattle.abi_layout.specs.declared.prim.Prim.{Prim}
-use Rattle.abi_layout.specs.declared.prim.Prim.TheVariants as prim
+use Rattle.abi_layout.specs.declared.prim.Primitive.{Primitive}
+use Rattle.abi_layout.specs.declared.prim.Primitive.TheVariants as prim
 use Rattle.abi_layout.specs.Prims.{Niches, none, truth, not_zero, niches_of, width_of, niche_items, niche_head, prim_frame, unit_frame}
 use Rattle.abi_layout.specs.Folds.{AreLawful}
 use Rattle.abi_layout.specs.Trees as tree
@@ -191,7 +190,7 @@ lead_niche none n ps e = absurd (cc)
 lead_niche truth n ps e = e
 lead_niche not_zero n ps e = e
 
-prim_patterns : (p : Prim) → list_all is_pattern (offered (niche_items (niches_of p) (width_of p))) ≡ true
+prim_patterns : (p : Primitive) → list_all is_pattern (offered (niche_items (niches_of p) (width_of p))) ≡ true
 prim_patterns prim.Unit = refl
 prim_patterns prim.Bool = refl
 prim_patterns prim.U8 = refl
@@ -210,7 +209,7 @@ prim_patterns prim.NonZeroU32 = refl
 prim_patterns prim.NonZeroU64 = refl
 prim_patterns prim.NonZeroU128 = refl
 
-prim_bytes : (p : Prim) → list_all are_bytes (offered (niche_items (niches_of p) (width_of p))) ≡ true
+prim_bytes : (p : Primitive) → list_all are_bytes (offered (niche_items (niches_of p) (width_of p))) ≡ true
 prim_bytes prim.Unit = refl
 prim_bytes prim.Bool = refl
 prim_bytes prim.U8 = refl
@@ -229,7 +228,7 @@ prim_bytes prim.NonZeroU32 = refl
 prim_bytes prim.NonZeroU64 = refl
 prim_bytes prim.NonZeroU128 = refl
 
-pub prim_sound : (target : Target) (p : Prim) → is_row target ≡ true → IsSound (prim_frame target p)
+pub prim_sound : (target : Target) (p : Primitive) → is_row target ≡ true → IsSound (prim_frame target p)
 unfolding prim_frame
 prim_sound target p row = record {
   lawful = prim_lawful target p row;

@@ -17,7 +17,7 @@ use Rattle.abi_layout.specs.Structs.{end_of, struct_frame}
 use Rattle.abi_layout.specs.Folds.{folded, opened, closed_by, AreLawful}
 use Rattle.abi_num.specs.Target.{is_row}
 use Rattle.abi_num.specs.declared.target.Target.{Target}
-use Rattle.abi_layout.specs.declared.prim.Prim.{Prim}
+use Rattle.abi_layout.specs.declared.prim.Primitive.{Primitive}
 use Rattle.abi_layout.specs.Prims.{width_of, align_of, niches_of, niche_items, niche_head, niche_count, prim_frame}
 use Rattle.abi_layout.specs.Trees.{Tree, parts}
 use Rattle.abi_layout.proofs.Rows.{prim_lawful}
@@ -122,7 +122,7 @@ pub faultless : (rules : Rules) (target : Target) (t : Tree) → is_row target �
 faultless rules target t e le none = then_parts rules target t e le ∙ none
 
 -- a primitive made of its parts
-pub prim_made : (t : Target) (p : Prim) (made : Frame) (size : ℕ) → is_row t ≡ true → size ≡ width_of p → made.size ≡ size → made.align ≡ align_of t size → made.free ≡ []
+pub prim_made : (t : Target) (p : Primitive) (made : Frame) (size : ℕ) → is_row t ≡ true → size ≡ width_of p → made.size ≡ size → made.align ≡ align_of t size → made.free ≡ []
     → made.forbids ≡ niche_items (niches_of p) (width_of p) → made.head ≡ niche_head (niches_of p) (width_of p) → made.niches ≡ niche_count (niches_of p) → made.indirections ≡ false
     → IsLawful made × (made ≡ prim_frame t p)
 unfolding prim_frame

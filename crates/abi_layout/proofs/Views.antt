@@ -1,12 +1,12 @@
 -- The plain tree of a description, by variant.
 use Rattle.std.proofs.Common.{◌≡◌, ℕ, suc, ◌+◌, ◌<◌, List, ◌∷◌, Option, length, get_or, drop, refl, sym, ap, ◌∙◌, arith, drop-cons, rules}
-use Rattle.abi_layout.specs.declared.prim.Prim.{Prim}
+use Rattle.abi_layout.specs.declared.prim.Primitive.{Primitive}
 use Rattle.abi_layout.specs.declared.desc.Desc.{the_lemmas}
 use Rattle.abi_layout.specs.declared.desc.Desc.TheVariants as desc
 use Rattle.abi_layout.specs.declared.desc.Field.{Field}
 use Rattle.abi_layout.specs.Trees.{tree, branches, prim, struct, field}
 
-pub tree_prim : (p : Prim) → tree (desc.Prim p) ≡ prim p
+pub tree_prim : (p : Primitive) → tree (desc.Prim p) ≡ prim p
 tree_prim p = search (rules, the_lemmas)
 
 pub tree_struct : (name module_name : List ℕ) (version : ℕ) (fs : List Field) (align : Option ℕ)

@@ -13,7 +13,7 @@ use Rattle.abi_layout.specs.Prims.{prim_frame}
 use Rattle.abi_layout.specs.Trees.{Tree, Label, prim, struct, result, option, none, field}
 use Rattle.abi_layout.specs.Frames.{written_frame}
 use Rattle.abi_layout.specs.Faults.{desc_fault}
-use Rattle.abi_layout.specs.declared.prim.Prim.TheVariants as the
+use Rattle.abi_layout.specs.declared.prim.Primitive.TheVariants as the
 use Rattle.abi_layout.specs.declared.desc_error.DescError.TheVariants as fault
 
 le64 : Target

@@ -6,11 +6,11 @@ use Rattle.abi_bits.specs.Forbidden.{Item, pattern, range}
 use Rattle.abi_bits.specs.declared.saturating_add_value.SaturatingAddValue.{SaturatingAddValue}
 use Rattle.abi_bits.specs.declared.saturating_add_value.SaturatingAddValue.TheVariants as count
 use Rattle.abi_det.specs.Frame.{Frame}
-use Rattle.abi_layout.specs.declared.prim.Prim as the_prim
-use Rattle.abi_layout.specs.declared.prim.Prim.TheVariants as prim
+use Rattle.abi_layout.specs.declared.prim.Primitive.{Primitive}
+use Rattle.abi_layout.specs.declared.prim.Primitive.TheVariants as prim
 
 -- in bytes
-abbrev pub width_of : the_prim.Prim → ℕ
+abbrev pub width_of : Primitive → ℕ
 width_of prim.Unit = 0
 width_of prim.Bool = 1
 width_of prim.U8 = 1
@@ -35,7 +35,7 @@ pub data Niches : Type 0 where
   truth : Niches
   not_zero : Niches
 
-abbrev pub niches_of : the_prim.Prim → Niches
+abbrev pub niches_of : Primitive → Niches
 niches_of prim.Bool = truth
 niches_of prim.NonZeroU8 = not_zero
 niches_of prim.NonZeroU16 = not_zero
@@ -69,7 +69,7 @@ niche_count truth = count.Saturator
 niche_count not_zero = count.B1
 
 -- no primitive has free bits
-unfoldable pub prim_frame : Target → the_prim.Prim → Frame
+unfoldable pub prim_frame : Target → Primitive → Frame
 prim_frame t p = record {
   size = width_of p;
   align = align_of t (width_of p);

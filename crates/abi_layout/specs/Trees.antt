@@ -1,6 +1,6 @@
 -- Descriptions as plain trees.
 use Rattle.std.specs.Prelude.{ℕ, ◌+◌, List, [], ◌∷◌, Option, map}
-use Rattle.abi_layout.specs.declared.prim.Prim as the_prim
+use Rattle.abi_layout.specs.declared.prim.Primitive.{Primitive}
 use Rattle.abi_layout.specs.declared.desc.Desc.{Desc, fold-Desc}
 use Rattle.abi_layout.specs.declared.desc.Desc.TheOpen.{Desc-F, Field-F}
 use Rattle.abi_layout.specs.declared.desc.Field.{Field}
@@ -13,7 +13,7 @@ pub record Label : Type 0 where
 
 mutual
   pub data Tree : Type 0 where
-    prim : the_prim.Prim → Tree
+    prim : Primitive → Tree
     struct : Label → Branches → Option ℕ → Tree
     result : Tree → Tree → Tree
     option : Tree → Tree

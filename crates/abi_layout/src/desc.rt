@@ -1,4 +1,4 @@
-use crate::prim::Prim;
+use crate::prim::Primitive;
 use abi_num::{Items, Text};
 
 /// The fields of a described struct, in order.
@@ -20,7 +20,7 @@ pub struct Field {
 #[derive(Drop)]
 pub enum Desc {
     /// A primitive.
-    Prim(Prim),
+    Prim(Primitive),
     /// A struct.
     Struct {
         /// The type's name.

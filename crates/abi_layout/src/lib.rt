@@ -19,7 +19,7 @@ pub use desc::{Desc, Field, FieldDescs};
 pub use desc_error::DescError;
 pub use layouts::{check_description, layout_of};
 pub use numbering::parts;
-pub use prim::Prim;
+pub use prim::Primitive as Prim;
 pub use primitives::{prim_layout, unit_layout};
 pub use structs::struct_layout;
 pub use sums::packed_sum;

@@ -1,6 +1,6 @@
 /// A primitive type, by its name.
 #[derive(Debug, Clone, Copy, PartialEq, Eq)]
-pub enum Prim {
+pub enum Primitive {
     /// `()`
     Unit,
     /// `bool`

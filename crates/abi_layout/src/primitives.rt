@@ -4,14 +4,14 @@ ghost use Rattle.abi_bits.specs.Forbidden.{items, head};
 ghost use Rattle.abi_layout.specs.Prims.{width_of, niches_of, align_of, zero_bytes, niche_items, niche_head, niche_count, prim_frame, unit_frame};
 
 use crate::builders::bare;
-use crate::prim::Prim;
+use crate::prim::Primitive;
 use abi_bits::{BitMask, ForbiddenValues, Pattern, SaturatingAddValue};
 use abi_det::{Layout, RawLayout};
 use abi_num::{Items, OutOfMemory, Target};
 use std::alloc::Global;
 
 /// The layout of a primitive on a target, which is a supported one.
-pub fn prim_layout(alloc: Global, target: &Target, prim: &Prim) -> Result<Layout, OutOfMemory>
+pub fn prim_layout(alloc: Global, target: &Target, prim: &Primitive) -> Result<Layout, OutOfMemory>
     requires { IsTrue (is_row target.now) }
     ensures { IfOk result (λ l. l ≡ prim_frame target.now prim.now) }
 {
@@ -36,16 +36,16 @@ pub fn unit_layout(alloc: Global) -> Layout
 }
 
 /// The width of a primitive in bytes.
-fn width_of(prim: Prim) -> u64
+fn width_of(prim: Primitive) -> u64
     ensures { result ≡ width_of prim }
 {
     match prim {
-        Prim::Unit => 0,
-        Prim::Bool | Prim::U8 | Prim::I8 | Prim::NonZeroU8 => 1,
-        Prim::U16 | Prim::I16 | Prim::NonZeroU16 => 2,
-        Prim::U32 | Prim::I32 | Prim::NonZeroU32 => 4,
-        Prim::U64 | Prim::I64 | Prim::NonZeroU64 => 8,
-        Prim::U128 | Prim::I128 | Prim::NonZeroU128 => 16,
+        Primitive::Unit => 0,
+        Primitive::Bool | Primitive::U8 | Primitive::I8 | Primitive::NonZeroU8 => 1,
+        Primitive::U16 | Primitive::I16 | Primitive::NonZeroU16 => 2,
+        Primitive::U32 | Primitive::I32 | Primitive::NonZeroU32 => 4,
+        Primitive::U64 | Primitive::I64 | Primitive::NonZeroU64 => 8,
+        Primitive::U128 | Primitive::I128 | Primitive::NonZeroU128 => 16,
     }
 }
 
@@ -62,37 +62,37 @@ fn align_of(target: &Target, width: u64) -> u64
 }
 
 /// The count of a primitive's niches.
-fn niches_of(prim: Prim) -> SaturatingAddValue
+fn niches_of(prim: Primitive) -> SaturatingAddValue
     ensures { result ≡ niche_count (niches_of prim) }
 {
     match prim {
-        Prim::Bool => SaturatingAddValue::Saturator,
-        Prim::NonZeroU8
-        | Prim::NonZeroU16
-        | Prim::NonZeroU32
-        | Prim::NonZeroU64
-        | Prim::NonZeroU128 => SaturatingAddValue::B1,
+        Primitive::Bool => SaturatingAddValue::Saturator,
+        Primitive::NonZeroU8
+        | Primitive::NonZeroU16
+        | Primitive::NonZeroU32
+        | Primitive::NonZeroU64
+        | Primitive::NonZeroU128 => SaturatingAddValue::B1,
         _ => SaturatingAddValue::B0,
     }
 }
 
 /// What the bytes of a primitive of `width` bytes never are.
-fn forbidden_of(alloc: Global, prim: Prim, width: u64) -> Result<ForbiddenValues, OutOfMemory>
+fn forbidden_of(alloc: Global, prim: Primitive, width: u64) -> Result<ForbiddenValues, OutOfMemory>
     requires { width ≡ width_of prim }
     ensures items { IfOk result (λ forbidden. items forbidden ≡ niche_items (niches_of prim) (width_of prim)) }
     ensures head { IfOk result (λ forbidden. head forbidden ≡ niche_head (niches_of prim) (width_of prim)) }
 {
     match prim {
-        Prim::Bool => Ok(ForbiddenValues::ForbiddenRange {
+        Primitive::Bool => Ok(ForbiddenValues::ForbiddenRange {
             min: 2,
             max: 255,
             offset: 0,
         }),
-        Prim::NonZeroU8
-        | Prim::NonZeroU16
-        | Prim::NonZeroU32
-        | Prim::NonZeroU64
-        | Prim::NonZeroU128 => {
+        Primitive::NonZeroU8
+        | Primitive::NonZeroU16
+        | Primitive::NonZeroU32
+        | Primitive::NonZeroU64
+        | Primitive::NonZeroU128 => {
             let zero = zero_pattern(alloc, width)?;
             Ok(ForbiddenValues::Array(zero))
         }

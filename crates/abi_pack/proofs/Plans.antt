@@ -18,8 +18,8 @@ use Rattle.abi_layout.specs.declared.desc_error.DescError.{DescError}
 use Rattle.abi_bits.proofs.Entries.{zero_past}
 use Rattle.abi_layout.proofs.Faultless.{no_fault}
 use Rattle.abi_layout.proofs.Sounding.{part_sound, unit_sound}
-use Rattle.abi_layout.specs.declared.prim.Prim.{Prim}
-use Rattle.abi_layout.specs.declared.prim.Prim.TheVariants as primitive
+use Rattle.abi_layout.specs.declared.prim.Primitive.{Primitive}
+use Rattle.abi_layout.specs.declared.prim.Primitive.TheVariants as primitive
 use Rattle.abi_pack.specs.PlanLaws.{PlanLaw}
 use Rattle.abi_pack.specs.Form.{form_size, form_items}
 use Rattle.abi_pack.specs.Shape.{Shape, prim, sum}
@@ -31,7 +31,7 @@ use Rattle.abi_pack.specs.declared.part.Sort.TheVariants as sort
 use Rattle.abi_pack.proofs.StructPlans.{Agrees, AllAgree, none_bit, struct_agrees}
 use Rattle.abi_pack.proofs.SumPlans.{sum_agrees, spot_sound}
 
-same_size : (target : Target) (p : Prim) → form_size (form_of target p) ≡ (prim_frame target p).size
+same_size : (target : Target) (p : Primitive) → form_size (form_of target p) ≡ (prim_frame target p).size
 unfolding prim_frame
 same_size target primitive.Unit = refl
 same_size target primitive.Bool = refl
@@ -51,7 +51,7 @@ same_size target primitive.NonZeroU32 = refl
 same_size target primitive.NonZeroU64 = refl
 same_size target primitive.NonZeroU128 = refl
 
-same_items : (target : Target) (p : Prim) → form_items (form_of target p) ≡ (prim_frame target p).forbids
+same_items : (target : Target) (p : Primitive) → form_items (form_of target p) ≡ (prim_frame target p).forbids
 unfolding prim_frame
 same_items target primitive.Unit = refl
 same_items target primitive.Bool = refl
@@ -71,7 +71,7 @@ same_items target primitive.NonZeroU32 = refl
 same_items target primitive.NonZeroU64 = refl
 same_items target primitive.NonZeroU128 = refl
 
-pub prim_agrees : (target : Target) (p : Prim) → Agrees (prim_frame target p) (prim (form_of target p))
+pub prim_agrees : (target : Target) (p : Primitive) → Agrees (prim_frame target p) (prim (form_of target p))
 unfolding prim_frame
 prim_agrees target p = record {
   same_size = same_size target p;

@@ -12,8 +12,8 @@ use Rattle.abi_layout.specs.Structs.{end_of, fields_align, struct_frame}
 use Rattle.abi_layout.specs.Trees as trees
 use Rattle.abi_layout.specs.Trees.{Tree, Branches}
 use Rattle.abi_layout.specs.Frames.{written_frame, written_frames}
-use Rattle.abi_layout.specs.declared.prim.Prim as the_prim
-use Rattle.abi_layout.specs.declared.prim.Prim.TheVariants as primitive
+use Rattle.abi_layout.specs.declared.prim.Primitive.{Primitive}
+use Rattle.abi_layout.specs.declared.prim.Primitive.TheVariants as primitive
 use Rattle.abi_pack.specs.Shape.{Shape, Shapes, prim, struct, sum, last, field}
 use Rattle.abi_pack.specs.declared.form.Form.{Form}
 use Rattle.abi_pack.specs.declared.form.Form.TheVariants as form
@@ -26,7 +26,7 @@ abbrev pub int_form : Target → Width → Bool → Bool → Form
 int_form target w signed zero = form.Int (record { width = w; signed = signed; zero = zero; little = target.little })
 
 -- how a primitive stands in its bytes
-abbrev pub form_of : Target → the_prim.Prim → Form
+abbrev pub form_of : Target → Primitive → Form
 form_of target primitive.Unit = form.Unit
 form_of target primitive.Bool = form.Bool
 form_of target primitive.U8 = int_form target width.One false true

@@ -1,14 +1,17 @@
 pub mod Agree
 pub mod Form
 pub mod Image
+pub mod Jobs
 pub mod Laws
 pub mod Packed
+pub mod Packing
 pub mod Plain
 pub mod Planned
 pub mod Reading
 pub mod Shape
 pub mod Shows
 pub mod Sound
+pub mod Sums
 pub mod Told
 pub mod View
 pub mod Descriptions

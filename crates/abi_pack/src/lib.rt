@@ -1,9 +1,12 @@
 //! Values packed into bytes: what bytes show, and how a value is written and read back.
 #![tactic(auto)]
 
+mod abi_error;
 mod fits;
 mod form;
+mod image;
 mod integer;
+mod jobs;
 pub mod laws;
 mod layers;
 mod part;
@@ -18,6 +21,9 @@ mod tests;
 mod value;
 mod write;
 
+pub use abi_error::AbiError;
+pub use image::{Image, Placed, PlacedList};
+pub use jobs::run;
 pub use plan::{Plan, ReadError};
 pub use step::{Edit, Edits, Step, Steps};
 pub use value::{Bytes, Value, Values};

@@ -1,5 +1,5 @@
 use crate::form::Form;
-use abi_bits::Pairs;
+use abi_bits::BitMask;
 use abi_det::Determinant;
 use abi_num::Items;
 
@@ -65,5 +65,5 @@ pub struct Spot {
     /// The test that tells the variant.
     pub determinant: Determinant,
     /// The bits that the sum leaves free.
-    pub free: Pairs,
+    pub free: BitMask,
 }

@@ -1,16 +1,26 @@
-ghost use Rattle.std.specs.Prelude.{◌≡◌, ◌↔◌, true, IsTrue, length, slice_index};
+ghost use Rattle.std.specs.Prelude.{◌≡◌, ◌↔◌, true, None, IsTrue, IfOk, IfErr, length, slice_index};
+ghost use Rattle.abi_det.specs.Offers.{One};
+ghost use Rattle.abi_layout.specs.Trees.{tree};
+ghost use Rattle.abi_layout.specs.Frames.{written_frame};
+ghost use Rattle.abi_layout.specs.Faults.{IsFault, desc_fault};
+ghost use Rattle.abi_pack.specs.Descriptions.{planned};
+ghost use Rattle.abi_pack.specs.Sums.{written_sums};
 ghost use Rattle.abi_pack.specs.Reading.{IsShown, IsReading};
 ghost use Rattle.abi_pack.specs.Shape.{size as size_of};
 ghost use Rattle.abi_pack.specs.Shows.{fits, IsCanonical};
 ghost use Rattle.abi_pack.specs.View.{shape, plain};
 
 use crate::fits::fits;
+use crate::image::PlacedList;
 use crate::part::Part;
 use crate::read::read;
 use crate::shown::is_shown;
 use crate::sizes::size;
 use crate::value::Value;
 use crate::write::write;
+use abi_det::Layout;
+use abi_layout::{Desc, DescError};
+use abi_num::Target;
 use std::alloc::Global;
 use std::marker::Model;
 
@@ -25,43 +35,60 @@ pub enum ReadError {
     OutOfMemory,
 }
 
-/// What each byte of a description means: enough to pack its values and to read them back.
+/// What each byte of a description means, enough to pack its values and to read them back; its layout, and its packed sums.
 #[derive(Drop)]
 pub struct Plan {
     part: Part,
+    layout: Layout,
+    placed: PlacedList,
 }
 
 impl Model for Plan {
-    ghost use Rattle.abi_pack.specs.declared.part.Part.{Part};
+    ghost use Rattle.abi_pack.specs.Packing.{Packing};
     ghost use Rattle.abi_pack.specs.contracts.part.Part as e;
     ghost use Rattle.std.specs.Coded.{codes};
 
-    ghost Value = { Part };
+    ghost Value = { Packing };
 
     ghost coded = { Prim.hlevel (codes, e.the_row.coded) };
 
     ghost use Rattle.abi_pack.specs.Planned.{IsPlanned};
     ghost use Rattle.abi_pack.specs.View.{shape};
 
-    ghost view = { λ p. p.part };
+    ghost view = { λ p. record { part = p.part; layout = p.layout; sums = p.placed } };
 
     ghost invariant = { λ p. IsPlanned (shape p.part) };
 }
 
 impl Plan {
-    ghost use Rattle.abi_pack.specs.Planned.{IsPlanned};
-
-    /// The plan of a part.
-    pub(crate) fn new(part: Part) -> Plan
-        requires { IsPlanned (shape part) }
-        ensures { result ≡ part }
+    /// The plan of a description on a target. Refused as `layout_of` is.
+    pub fn of(alloc: Global, target: &Target, desc: &Desc) -> Result<Plan, DescError>
+        ensures part { IfOk result (λ p. shape p.part ≡ planned One target.now (tree desc.now)) }
+        ensures layout { IfOk result (λ p. p.layout ≡ written_frame One target.now (tree desc.now)) }
+        ensures placed { IfOk result (λ p. p.sums ≡ written_sums One target.now 0 (tree desc.now)) }
+        ensures faultless { IfOk result (λ _. desc_fault One target.now (tree desc.now) ≡ None) }
+        ensures err { IfErr result (IsFault (desc_fault One target.now (tree desc.now))) }
     {
-        Plan { part }
+        Err(DescError::OutOfMemory)
+    }
+
+    /// The layout of the description.
+    pub fn layout(&self) -> &Layout
+        ensures { result.now ≡ self.now.layout }
+    {
+        &self.layout
+    }
+
+    /// The packed sums of the description in pre-order.
+    pub fn placed(&self) -> &PlacedList
+        ensures { result.now ≡ self.now.sums }
+    {
+        &self.placed
     }
 
     /// Whether the value is one of the description. Takes no memory.
     pub fn fits(&self, value: &Value) -> bool
-        ensures { result ≡ fits (shape self.now) (plain value.now) }
+        ensures { result ≡ fits (shape self.now.part) (plain value.now) }
     {
         fits(&self.part, value)
     }
@@ -70,16 +97,16 @@ impl Plan {
     /// does not hold is 0. The value must fit, and `out` must have the size of the description. Takes no memory.
     #[tactic(auto, using(crate::proofs::Planning::written_canonical))]
     pub fn write(&self, value: &Value, out: &mut [u8])
-        requires fits { fits (shape self.now) (plain value.now) ≡ true }
-        requires room { length out.old ≡ size_of (shape self.now) }
-        ensures { IsCanonical (shape self.now) (plain value.now) (slice_index out.new) }
+        requires fits { fits (shape self.now.part) (plain value.now) ≡ true }
+        requires room { length out.old ≡ size_of (shape self.now.part) }
+        ensures { IsCanonical (shape self.now.part) (plain value.now) (slice_index out.new) }
     {
         write(&self.part, value, out);
     }
 
     /// Whether there are as many bytes as the description has, and they show a value. Takes no memory.
     pub fn shown(&self, bytes: &[u8]) -> bool
-        ensures { IsTrue result ↔ IsShown (shape self.now) bytes.now }
+        ensures { IsTrue result ↔ IsShown (shape self.now.part) bytes.now }
     {
         if bytes.len() != size(&self.part) {
             return false;
@@ -89,7 +116,7 @@ impl Plan {
 
     /// The value that the bytes show.
     pub fn read(&self, alloc: Global, bytes: &[u8]) -> Result<Value, ReadError>
-        ensures { IsReading (shape self.now) bytes.now result }
+        ensures { IsReading (shape self.now.part) bytes.now result }
     {
         if bytes.len() != size(&self.part) {
             return Err(ReadError::WrongLength);

@@ -30,7 +30,7 @@ fn tagged(alloc: Global) -> Result<Plan, OutOfMemory>
             not: false,
             test: Test::BitDeterminant,
         },
-        free: Items::new(alloc),
+        free: BitMask::new(alloc),
     };
     let part = Part::Sum {
         sort: Sort::OfOption,

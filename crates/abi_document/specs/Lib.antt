@@ -1,0 +1,5 @@
+pub mod Forms
+pub mod Integers
+pub mod Descriptions
+pub mod Values
+pub mod Documents

@@ -1,0 +1,6 @@
+/// A command that reads a document.
+#[derive(Debug, Clone, Copy, PartialEq, Eq)]
+pub enum Command {
+    /// The bytes of a value of a description.
+    Pack,
+}

