@@ -4,8 +4,8 @@ use Rattle.std.specs.Option.{option_map}
 use Rattle.std.specs.Str.{bytes_eq}
 use Rattle.std.specs.Io.KnownBytes.{Appends, Keeps}
 use Rattle.serde_json.specs.Data.{Data}
-use Rattle.abi_tool.specs.declared.command.Command.{Command}
-use Rattle.abi_tool.specs.declared.command.Command.TheVariants.{Pack}
+use Rattle.abi_document.specs.declared.command.Command.{Command}
+use Rattle.abi_document.specs.declared.command.Command.TheVariants.{Pack}
 use Rattle.abi_tool.specs.declared.answer.Answer.{Answer}
 use Rattle.abi_tool.specs.declared.answer.Answer.TheVariants.{Done, TooLong, NotJson, NotAJob, Refused}
 use Rattle.abi_tool.specs.declared.answer.Reply.{Reply}

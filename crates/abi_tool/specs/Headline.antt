@@ -1,6 +1,5 @@
 -- What status 0 of `pack` says: an image with the written layout was written, which shows the job's value and no other.
-use Rattle.std.specs.Prelude.{◌≡◌, ◌↔◌, ℕ, ◌+◌, ◌*◌, ◌/◌, ◌%◌, ◌<◌, List, true, false, Option, Some, None, length, slice_index}
-use Rattle.std.specs.Int.{bit_at}
+use Rattle.std.specs.Prelude.{◌≡◌, ◌↔◌, ℕ, ◌+◌, ◌*◌, ◌<◌, List, true, false, Some, None, length}
 use Rattle.std.specs.List.{list_any}
 use Rattle.std.specs.Io.KnownBytes.{Appends}
 use Rattle.serde_json.specs.Data.{Data}
@@ -14,33 +13,31 @@ use Rattle.abi_det.specs.Offers.{One}
 use Rattle.abi_det.specs.Niches.{IsNiche, OffersNone}
 use Rattle.abi_det.specs.declared.placements.Kind.{Kind}
 use Rattle.abi_det.specs.declared.determinant.Test.{Test}
-use Rattle.abi_tool.specs.Reading.{reading}
-use Rattle.abi_tool.specs.Documents.{job_of}
-use Rattle.abi_tool.specs.Primitive.{primitive_frame, unit_frame}
-use Rattle.abi_tool.specs.Packing.{written_layout, written_sums, fault_of}
-use Rattle.abi_tool.specs.Shown.{Bytes, Shows, IsCanonical}
+use Rattle.abi_layout.specs.Frames.{written_frame}
+use Rattle.abi_layout.specs.Prims.{unit_frame}
+use Rattle.abi_layout.specs.Trees as trees
+use Rattle.abi_layout.specs.Trees.{Tree, Branches}
+use Rattle.abi_pack.specs.Descriptions.{planned}
+use Rattle.abi_pack.specs.Image.{Image as Bytes, AreBytes, bytes_of}
+use Rattle.abi_pack.specs.Jobs.{job_fault}
+use Rattle.abi_pack.specs.Laws.{bit_of}
+use Rattle.abi_pack.specs.Plain.{Plain}
+use Rattle.abi_pack.specs.Shows.{Shows, IsCanonical}
+use Rattle.abi_pack.specs.Sums.{written_sums}
+use Rattle.abi_pack.specs.declared.image.Image.{Image}
+use Rattle.abi_document.specs.Documents.{PlainJob, pack, job_of}
+use Rattle.abi_document.specs.declared.command.Command.TheVariants.{Pack}
 use Rattle.abi_tool.specs.Lines.{image_text}
-use Rattle.abi_tool.specs.declared.desc.Desc.{Desc}
-use Rattle.abi_tool.specs.declared.desc.Desc.TheVariants as desc
-use Rattle.abi_tool.specs.declared.value.Value.{Value}
-use Rattle.abi_tool.specs.declared.job.Job.{Job}
-use Rattle.abi_tool.specs.declared.image.Image.{Image}
-
-abbrev pub AreBytes : Bytes → Type 0
-AreBytes image = (at : ℕ) → image at < 256
-
--- bit k of the byte at offset i has the number 8 * i + k
-abbrev pub bit_of : Bytes → ℕ → ℕ
-bit_of image n = bit_at (image (n / 8)) (n % 8)
+use Rattle.abi_tool.specs.Reading.{reading}
 
 -- the two images are equal in each bit below the size that is not free
 abbrev pub AgreesOutside : List Pair → ℕ → Bytes → Bytes → Type 0
 AgreesOutside free size f g = (n : ℕ) → n < 8 * size → (Has free n → ⊥) → bit_of f n ≡ bit_of g n
 
 -- the image shows this value and no other, and matches no forbidden item
-pub record ShowsOnly (target : Target) (d : Desc) (value : Value) (image : Bytes) : Type 0 where
-  pub shown : (v : Value) → Shows target d v image ↔ (v ≡ value)
-  pub allowed : list_any (is_match image) (written_layout target d).forbids ≡ false
+pub record ShowsOnly (target : Target) (t : Tree) (value : Plain) (image : Bytes) : Type 0 where
+  pub shown : (v : Plain) → Shows (planned One target t) v image ↔ (v ≡ value)
+  pub allowed : list_any (is_match image) (written_frame One target t).forbids ≡ false
 
 -- a sum is as large as its larger variant, rounded up, and by one alignment larger exactly where no existing place offers a niche
 pub record IsSized (ok err whole : Frame) : Type 0 where
@@ -48,24 +45,36 @@ pub record IsSized (ok err whole : Frame) : Type 0 where
       → IsNiche One (larger ok err) (smaller ok err) (union_size ok err) k a n t → whole.size ≡ union_size ok err
   pub tagged : OffersNone One (larger ok err) (smaller ok err) (union_size ok err) 8 → whole.size ≡ union_size ok err + sum_align ok err
 
--- each sum of the description has its size
-abbrev pub AreSized : Target → Desc → Type 0
-AreSized target (desc.Option p) = IsSized (primitive_frame target p) unit_frame (written_layout target (desc.Option p))
+-- each packed sum of the description has its size
+abbrev mutual
+  pub AreSized : Target → Tree → Type 0
+  AreSized target (trees.prim p) = Unit {0}
+  AreSized target (trees.struct label fs align) = AreSizedIn target fs
+  AreSized target (trees.result ok err) =
+      IsSized (written_frame One target ok) (written_frame One target err) (written_frame One target (trees.result ok err))
+      × AreSized target ok × AreSized target err
+  AreSized target (trees.option some) =
+      IsSized (written_frame One target some) unit_frame (written_frame One target (trees.option some)) × AreSized target some
+
+  pub AreSizedIn : Target → Branches → Type 0
+  AreSizedIn target trees.none = Unit {0}
+  AreSizedIn target (trees.field name t fs) = AreSized target t × AreSizedIn target fs
 
 -- the document was a job without a fault, and what the sink got is the text of an image: of the written layout and sums, as long
 -- as the layout says, canonical for the job's value, and with each image that differs in free bits alone it shows this value only
 pub record Packs (bytes : List ℕ) (old new : Option (List ℕ)) : Type 0 where
   pub tree : Data
-  pub job : Job
+  pub target : Target
+  pub desc : Tree
+  pub value : Plain
   pub image : Image
   pub is_read : reading bytes ≡ Some tree
-  pub is_job : job_of tree ≡ Some job
-  pub no_fault : fault_of job ≡ None
+  pub is_job : job_of Pack tree ≡ Some (record { target = target; task = pack desc value })
+  pub no_fault : job_fault One target desc value ≡ None
   pub wrote : Appends old new (image_text image)
-  pub is_layout : image.layout ≡ written_layout job.target job.desc
-  pub are_sums : image.placed ≡ written_sums job.target job.desc
-  pub are_sized : AreSized job.target job.desc
+  pub is_layout : image.layout ≡ written_frame One target desc
+  pub are_sums : image.placed ≡ written_sums One target 0 desc
+  pub are_sized : AreSized target desc
   pub fills : length image.bytes ≡ image.layout.size
-  pub canonical : IsCanonical job.target job.desc job.value (slice_index image.bytes)
-  pub shows : (f : Bytes) → AreBytes f → AgreesOutside image.layout.free image.layout.size (slice_index image.bytes) f
-      → ShowsOnly job.target job.desc job.value f
+  pub canonical : IsCanonical (planned One target desc) value (bytes_of image.bytes)
+  pub shows : (f : Bytes) → AreBytes f → AgreesOutside image.layout.free image.layout.size (bytes_of image.bytes) f → ShowsOnly target desc value f

@@ -1,12 +1,8 @@
 pub mod Answers
 pub mod Causes
-pub mod Documents
 pub mod Headline
 pub mod Lines
 pub mod Memory
 pub mod Moves
-pub mod Packing
-pub mod Primitive
 pub mod Reading
 pub mod Reply
-pub mod Shown

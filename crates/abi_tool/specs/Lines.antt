@@ -10,10 +10,10 @@ use Rattle.abi_det.specs.declared.placements.Kind.{Kind}
 use Rattle.abi_det.specs.declared.placements.Kind.TheVariants as kind
 use Rattle.abi_det.specs.declared.determinant.Test.{Test}
 use Rattle.abi_det.specs.declared.determinant.Test.TheVariants as test
-use Rattle.abi_tool.specs.declared.image.Placed.{Placed}
-use Rattle.abi_tool.specs.declared.image.Image.{Image}
-use Rattle.abi_tool.specs.declared.fault.Fault.{Fault}
-use Rattle.abi_tool.specs.declared.fault.Fault.TheVariants as fault
+use Rattle.abi_pack.specs.declared.image.Placed.{Placed}
+use Rattle.abi_pack.specs.declared.image.Image.{Image}
+use Rattle.abi_pack.specs.declared.abi_error.AbiError.{AbiError}
+use Rattle.abi_pack.specs.declared.abi_error.AbiError.TheVariants as fault
 
 unfoldable pub size_line : ℕ → List ℕ
 size_line size = codes "size " ++ decimal size ++ codes "\n"
@@ -106,8 +106,14 @@ sum_lines ps = flat_map sum_line ps
 unfoldable pub image_text : Image → List ℕ
 image_text image = layout_lines image.layout ++ sum_lines image.placed ++ bytes_line image.bytes
 
-abbrev pub fault_text : Fault → List ℕ
+-- want of memory is no fault of a job, and has no text
+unfoldable pub fault_text : AbiError → List ℕ
+fault_text fault.BadTarget = codes "BadTarget"
+fault_text fault.TooManyParts = codes "TooManyParts"
+fault_text (fault.IllFormed part) = codes "IllFormed part " ++ decimal part
+fault_text (fault.TooLarge part) = codes "TooLarge part " ++ decimal part
+fault_text fault.OutOfMemory = []
 fault_text fault.WrongValue = codes "WrongValue"
 
-unfoldable pub refused_line : Fault → List ℕ
+unfoldable pub refused_line : AbiError → List ℕ
 refused_line f = codes "refused: " ++ fault_text f ++ codes "\n"
