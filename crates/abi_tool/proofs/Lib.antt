@@ -1,12 +1,8 @@
-pub mod Agreeing
 pub mod Entries
-pub mod Frames
-pub mod Keys
+pub mod Faultless
 pub mod Known
-pub mod Options
 pub mod Packs
 pub mod ReadingLemmas
 pub mod ReplyMeans
 pub mod ReplyToBytes
-pub mod Showing
-pub mod Words
+pub mod Sized

@@ -1,120 +1,116 @@
 -- Status 0 of `pack` says what the headline says.
-use Rattle.std.proofs.Common.{◌≡◌, inl, inr, ℕ, ◌+◌, ◌*◌, ◌<◌, Bool, true, false, ◌&&◌, List, [], Option, Some, None, IfSome, cond, eqb, ltb, leb, refl, sym, subst, ◌∙◌, length, slice_index, arith}
-use Rattle.std.specs.List.{list_any}
+use Rattle.std.proofs.Common.{◌≡◌, inl, inr, ℕ, ◌*◌, ◌/◌, ◌%◌, ◌<◌, Bool, true, false, List, [], Option, Some, None, IfSome, cond, ltb, refl, sym, subst, ◌∙◌, length, arith}
 use Rattle.std.specs.Io.KnownBytes.{Appends}
-use Rattle.std.proofs.lemmas.Bool.{and_parts, eqb-true, ltb-true}
+use Rattle.std.proofs.lemmas.Bool.{eq-eqb}
+use Rattle.std.specs.Int.{bit_at}
+use Rattle.std.specs.List.{list_any}
 use Rattle.serde_json.specs.Data.{Data}
 use Rattle.abi_num.specs.declared.target.Target.{Target}
-use Rattle.abi_bits.specs.Mask.{IsMask}
+use Rattle.abi_bits.specs.Mask.{mask_at}
 use Rattle.abi_bits.specs.Forbidden.{is_match}
-use Rattle.abi_det.specs.Frame.{Frame}
-use Rattle.abi_det.specs.Roles.{larger, smaller, union_size, is_place}
-use Rattle.abi_det.specs.Offers.{One, Niche, first_offer}
-use Rattle.abi_det.specs.Niches.{IsFirstBelow}
-use Rattle.abi_det.specs.Written.{placed, sum_frame, written_placement, written_sum}
-use Rattle.abi_det.proofs.Niches.{search_first}
-use Rattle.abi_tool.specs.declared.command.Command.TheVariants.{Pack}
-use Rattle.abi_tool.specs.declared.desc.Desc.{Desc}
-use Rattle.abi_tool.specs.declared.desc.Desc.TheVariants as desc
-use Rattle.abi_tool.specs.declared.primitive.Primitive.TheVariants as primitive
-use Rattle.abi_tool.specs.declared.fault.Fault.{Fault}
-use Rattle.abi_tool.specs.declared.job.Job.{Job}
+use Rattle.abi_det.specs.Offers.{One}
+use Rattle.abi_layout.specs.Frames.{written_frame}
+use Rattle.abi_layout.specs.Trees.{Tree}
+use Rattle.abi_pack.specs.Descriptions.{planned}
+use Rattle.abi_pack.specs.Image.{Image as Bytes, AreBytes, bytes_of}
+use Rattle.abi_pack.specs.Jobs.{job_fault, image_of}
+use Rattle.abi_pack.specs.Laws.{IsImageOf}
+use Rattle.abi_pack.specs.Packed.{packed}
+use Rattle.abi_pack.specs.Plain.{Plain}
+use Rattle.abi_pack.specs.PlanLaws.{IsPlanFor}
+use Rattle.abi_pack.specs.Shape.{Shape}
+use Rattle.abi_pack.specs.Shows.{Shows, fits}
+use Rattle.abi_pack.specs.Sound.{IsSound}
+use Rattle.abi_pack.specs.declared.abi_error.AbiError.{AbiError}
+use Rattle.abi_pack.proofs.Lawful.{unique_law, change_law, item_law, packed_image}
+use Rattle.abi_pack.proofs.Plans.{faultless_planned}
+use Rattle.abi_document.specs.Documents.{Task, pack, PlainJob, job_of}
+use Rattle.abi_document.specs.declared.command.Command.TheVariants.{Pack}
 use Rattle.abi_tool.specs.declared.answer.Answer.TheVariants.{TooLong}
 use Rattle.abi_tool.specs.declared.answer.Reply.{Reply}
-use Rattle.abi_tool.specs.Primitive.{primitive_frame, unit_frame}
-use Rattle.abi_tool.specs.Packing.{written_layout, fault_of, packed, image_of}
-use Rattle.abi_tool.specs.Shown.{Bytes, Shows}
 use Rattle.abi_tool.specs.Lines.{image_text}
-use Rattle.abi_tool.specs.Documents.{job_of}
 use Rattle.abi_tool.specs.Reading.{reading}
 use Rattle.abi_tool.specs.Moves.{limit}
-use Rattle.abi_tool.specs.Reply.{reply_by, reply_to_document, reply_to_tree}
+use Rattle.abi_tool.specs.Reply.{reply_by, reply_to_task, reply_to_document, reply_to_tree}
 use Rattle.abi_tool.specs.Answers.{code_of, reply_to_reading, reply_to_bytes, Replies}
-use Rattle.abi_tool.specs.Headline.{IsSized, AreSized, Packs}
-use Rattle.abi_tool.proofs.Options.{has_value}
-use Rattle.abi_tool.proofs.Agreeing.{listed_bytes}
-use Rattle.abi_tool.proofs.Showing.{one_value, agreeing_shows, IsPacked, is_packed}
+use Rattle.abi_tool.specs.Headline.{AgreesOutside, ShowsOnly, Packs}
+use Rattle.abi_tool.proofs.Faultless.{IsFaultless, faultless}
+use Rattle.abi_tool.proofs.Sized.{are_sized}
 
--- ---- sizes
+-- the packed bytes of a value that fits are canonical
+packed_canonical : (s : Shape) (v : Plain) → IsSound s → fits s v ≡ true → IsImageOf s v (packed s v)
+packed_canonical s v sound fit = packed_image s v sound fit
 
-place_if : (t : Bool) (k : ℕ) (b : Bool) → cond t (eqb k 0) (ltb k 8 && b) ≡ true → k < 8
-place_if true k b e = let z : k ≡ 0 = eqb-true k 0 e in omega (arith, z)
-place_if false k b e = ltb-true k 8 (and_parts (ltb k 8) b e).0
+-- ---- an image that differs in free bits alone
 
-one_of_eight : (small : Frame) (size k : ℕ) → is_place small size k ≡ true → k < 8
-one_of_eight small size k e = place_if (eqb small.size 0) k (leb (k * small.align + small.size) size) e
+shown_still : (target : Target) (t : Tree) (v : Plain) (f g : Bytes) → IsPlanFor (written_frame One target t) (planned One target t) → AreBytes f → AreBytes g
+    → Shows (planned One target t) v f → AgreesOutside (written_frame One target t).free (written_frame One target t).size f g → Shows (planned One target t) v g
+shown_still target t v f g plan bf bg shown same =
+    change_law (planned One target t) v f g plan.sound bf bg shown
+    (λ n lt taken. let low : n < 8 * (written_frame One target t).size = rw plan.same_size at lt in
+    same n low (λ has. taken (plan.same_free (n / 8) (n % 8) (omega arith) (omega arith) ∙ eq-eqb (bit_at (mask_at (written_frame One target t).free (n / 8)) (n % 8)) 1 has)))
 
-sized_by : (ok err : Frame) (found : Option (ℕ × Niche)) → IsFirstBelow One (larger ok err) (smaller ok err) (union_size ok err) 8 found
-    → IsSized ok err (sum_frame ok err (placed ok err found))
-sized_by ok err None none = record {
-  niched = λ k a n t place niche. absurd (none k (one_of_eight (smaller ok err) (union_size ok err) k place) place a n t niche);
-  tagged = λ all. refl;
+shows_only : (target : Target) (t : Tree) (v : Plain) (g : Bytes) → IsPlanFor (written_frame One target t) (planned One target t)
+    → Shows (planned One target t) v g → ShowsOnly target t v g
+shows_only target t v g plan shown = record {
+  shown = λ w. (λ h. unique_law (planned One target t) w v g h shown, λ e. subst (λ x. Shows (planned One target t) x g) (sym e) shown);
+  allowed = rw (sym plan.same_items) (item_law (planned One target t) v g shown);
 }
-sized_by ok err (Some found) first = record {
-  niched = λ k a n t place niche. omega arith;
-  tagged = λ none. absurd (none found.0 first.0 first.1 found.1.kind first.2.0 found.1.test first.2.1);
-}
-
-sized : (ok err : Frame) → IsMask (larger ok err).free → IsSized ok err (written_sum One ok err)
-unfolding written_sum written_placement
-sized ok err m =
-    sized_by ok err (first_offer One (larger ok err) (smaller ok err) (union_size ok err) 8) (search_first One (larger ok err) (smaller ok err) (union_size ok err) 8 m)
-
-are_sized : (target : Target) (d : Desc) → AreSized target d
-are_sized target (desc.Option primitive.Bool) = sized (primitive_frame target primitive.Bool) unit_frame refl
-are_sized target (desc.Option primitive.U32) = sized (primitive_frame target primitive.U32) unit_frame refl
-are_sized target (desc.Option primitive.NonZeroU32) = sized (primitive_frame target primitive.NonZeroU32) unit_frame refl
 
 -- ---- the image of a job
 
-none_forbidden : (target : Target) (d : Desc) (f : Bytes) → list_any (is_match f) (written_layout target d).forbids ≡ false
-unfolding written_sum
-none_forbidden target (desc.Option p) f = refl
-
-packs_job : (bytes : List ℕ) (old new : Option (List ℕ)) (tree : Data) (job : Job) → reading bytes ≡ Some tree → job_of tree ≡ Some job → fault_of job ≡ None
-    → Appends old new (image_text (image_of job)) → Packs bytes old new
+packs_job : (bytes : List ℕ) (old new : Option (List ℕ)) (tree : Data) (target : Target) (desc : Tree) (value : Plain) → reading bytes ≡ Some tree
+    → job_of Pack tree ≡ Some (record { target = target; task = pack desc value }) → job_fault One target desc value ≡ None
+    → Appends old new (image_text (image_of One target desc value)) → Packs bytes old new
 unfolding image_of
-packs_job bytes old new tree job r j f w =
-    let p : IsPacked job.target job.desc job.value (packed job.target job.desc job.value) = is_packed job.target job.desc job.value (has_value job f) in
+packs_job bytes old new tree target desc value r j f w =
+    let n : IsFaultless One target desc value = faultless One target desc value f in
+    let plan = faultless_planned One target desc n.row n.parts in
+    let p = packed_canonical (planned One target desc) value plan.sound n.fit in
     record {
       tree = tree;
-      job = job;
-      image = image_of job;
+      target = target;
+      desc = desc;
+      value = value;
+      image = image_of One target desc value;
       is_read = r;
       is_job = j;
       no_fault = f;
       wrote = w;
       is_layout = refl;
       are_sums = refl;
-      are_sized = are_sized job.target job.desc;
-      fills = p.fills;
-      canonical = record { shows = p.shows; zero_beside = p.zero_beside };
+      are_sized = are_sized target 0 desc n.row n.parts;
+      fills = p.string.long ∙ plan.same_size;
+      canonical = p.canonical;
       shows = λ g small same.
-          let there : Shows job.target job.desc job.value g =
-          agreeing_shows job.target job.desc job.value (slice_index (packed job.target job.desc job.value)) g (listed_bytes (packed job.target job.desc job.value) p.small) small same p.shows in
-          record {
-            shown = λ v. (λ h. one_value job.target job.desc v job.value g h there, λ e. subst (λ v. Shows job.target job.desc v g) (sym e) there);
-            allowed = none_forbidden job.target job.desc g;
-          };
+          shows_only target desc value g plan
+          (shown_still target desc value (bytes_of (packed (planned One target desc) value)) g plan p.string.bytes small p.canonical.shows same);
     }
 
 -- ---- from the reply
 
-packs_fault : (bytes : List ℕ) (old new : Option (List ℕ)) (tree : Data) (job : Job) (fault : Option Fault) → reading bytes ≡ Some tree → job_of tree ≡ Some job
-    → fault_of job ≡ fault → code_of (reply_by fault job).answer ≡ 0 → Appends old new (reply_by fault job).text → Packs bytes old new
-packs_fault bytes old new tree job (Some fault) r j f c w = absurd (omega (arith, c))
-packs_fault bytes old new tree job None r j f c w = packs_job bytes old new tree job r j f w
+packs_fault : (bytes : List ℕ) (old new : Option (List ℕ)) (tree : Data) (target : Target) (desc : Tree) (value : Plain) (fault : Option AbiError)
+    → reading bytes ≡ Some tree → job_of Pack tree ≡ Some (record { target = target; task = pack desc value }) → job_fault One target desc value ≡ fault
+    → let reply : Reply = reply_by fault (image_of One target desc value) in code_of reply.answer ≡ 0 → Appends old new reply.text → Packs bytes old new
+packs_fault bytes old new tree target desc value (Some fault) r j f c w = absurd (omega (arith, c))
+packs_fault bytes old new tree target desc value None r j f c w = packs_job bytes old new tree target desc value r j f w
 
-packs_document : (bytes : List ℕ) (old new : Option (List ℕ)) (tree : Data) (job : Option Job) → reading bytes ≡ Some tree → job_of tree ≡ job
+packs_task : (bytes : List ℕ) (old new : Option (List ℕ)) (tree : Data) (target : Target) (task : Task) → reading bytes ≡ Some tree
+    → job_of Pack tree ≡ Some (record { target = target; task = task }) → code_of (reply_to_task target task).answer ≡ 0
+    → Appends old new (reply_to_task target task).text → Packs bytes old new
+packs_task bytes old new tree target (pack desc value) r j c w =
+    packs_fault bytes old new tree target desc value (job_fault One target desc value) r j refl c w
+
+packs_document : (bytes : List ℕ) (old new : Option (List ℕ)) (tree : Data) (job : Option PlainJob) → reading bytes ≡ Some tree → job_of Pack tree ≡ job
     → code_of (reply_to_document job).answer ≡ 0 → Appends old new (reply_to_document job).text → Packs bytes old new
 packs_document bytes old new tree None r j c w = absurd (omega (arith, c))
-packs_document bytes old new tree (Some job) r j c w = packs_fault bytes old new tree job (fault_of job) r j refl c w
+packs_document bytes old new tree (Some job) r j c w = packs_task bytes old new tree job.target job.task r j c w
 
 packs_reading : (bytes : List ℕ) (old new : Option (List ℕ)) (tree : Option Data) → reading bytes ≡ tree
     → code_of (reply_to_reading Pack tree).answer ≡ 0 → Appends old new (reply_to_reading Pack tree).text → Packs bytes old new
 unfolding reply_to_tree
 packs_reading bytes old new None r c w = absurd (omega (arith, c))
-packs_reading bytes old new (Some tree) r c w = packs_document bytes old new tree (job_of tree) r refl c w
+packs_reading bytes old new (Some tree) r c w = packs_document bytes old new tree (job_of Pack tree) r refl c w
 
 packs_if : (bytes : List ℕ) (old new : Option (List ℕ)) (long : Bool) → let reply : Reply = cond long (record { answer = TooLong; text = [] }) (reply_to_reading Pack (reading bytes)) in
     code_of reply.answer ≡ 0 → Appends old new reply.text → Packs bytes old new

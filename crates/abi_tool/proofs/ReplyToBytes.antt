@@ -2,7 +2,7 @@
 use Rattle.std.proofs.Common.{◌≡◌, ℕ, ◌+◌, ◌<◌, ◌≤◌, ◌==◌, if◌then◌else◌, List, [], ◌++◌, Bool, true, false, cond, Option, Some, None, IfSome, length, nat_lt, refl, sym, ap, subst, ◌∙◌, arith, length-append}
 use Rattle.std.proofs.lemmas.Bool.{lt-ltb, ltb-true, ltb-false}
 use Rattle.serde_json.specs.Data.{Data}
-use Rattle.abi_tool.specs.declared.command.Command.{Command}
+use Rattle.abi_document.specs.declared.command.Command.{Command}
 use Rattle.abi_tool.specs.declared.answer.Answer.{Answer}
 use Rattle.abi_tool.specs.declared.answer.Answer.TheVariants.{Done, TooLong, NotJson, NotAJob, Refused}
 use Rattle.abi_tool.specs.declared.answer.Reply.{Reply}

@@ -1,14 +1,8 @@
 ghost use Rattle.std.specs.Prelude.{◌≡◌};
 ghost use Rattle.abi_tool.specs.Answers.{command_of, named_command};
 
+use abi_document::Command;
 use abi_num::Text;
-
-/// A command that reads a document.
-#[derive(Debug, Clone, Copy, PartialEq, Eq)]
-pub enum Command {
-    /// The bytes of a value of a description.
-    Pack,
-}
 
 /// The command that the words after the program's name spell; `None` exactly where they are no listed one.
 pub fn command_of(words: &[Text]) -> Option<Command>

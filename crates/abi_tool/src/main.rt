@@ -3,18 +3,11 @@
 
 mod answer;
 mod command;
-mod desc;
-mod document;
 mod failed;
-mod fault;
-mod image;
-mod job;
 mod mem_sink;
 mod mem_source;
-mod pack;
 #[cfg(test)]
 mod pack_tests;
-mod primitive;
 mod read_all;
 mod reading;
 mod reply;
@@ -27,7 +20,6 @@ mod std_source;
 mod tests;
 mod text;
 mod tool;
-mod value;
 mod write_all;
 
 use abi_num::Text;

@@ -6,13 +6,13 @@ ghost use Rattle.abi_tool.specs.Causes.{Rose};
 ghost use Rattle.abi_tool.specs.Moves.{limit};
 
 use crate::answer::{Answer, Reply};
-use crate::command::Command;
 use crate::read_all::{ReadError, read_all};
 use crate::reading::reading;
 use crate::reply::reply_to_tree;
 use crate::sink::Sink;
 use crate::source::Source;
 use crate::write_all::write_all;
+use abi_document::Command;
 use abi_num::{OutOfMemory, Text};
 use std::alloc::Global;
 

@@ -2,13 +2,12 @@
 
 ghost use Rattle.std.specs.Prelude.{◌≡◌, ◌++◌, List, ℕ, IfOk, OnOk, string_bytes, flat_map};
 ghost use Rattle.abi_bits.specs.Forbidden.{items};
-ghost use Rattle.abi_tool.specs.Lines.{size_line, align_line, niches_line, indirections_line, entry_text, entries_text, free_line, pair_text, pairs_text, more_pairs_text, items_text, forbidden_line, layout_lines, side_text, niche_text, meaning_text, places_text, sum_line, sum_lines, bytes_line, image_text, refused_line};
+ghost use Rattle.abi_tool.specs.Lines.{size_line, align_line, niches_line, indirections_line, entry_text, entries_text, free_line, pair_text, pairs_text, more_pairs_text, items_text, forbidden_line, layout_lines, side_text, niche_text, meaning_text, places_text, sum_line, sum_lines, bytes_line, image_text, fault_text, refused_line};
 
-use crate::fault::Fault;
-use crate::image::{Image, Placed};
 use abi_bits::{BitMask, ForbiddenValues, SaturatingAddValue};
 use abi_det::{Kind, Layout, Test};
 use abi_num::{OutOfMemory, Text};
+use abi_pack::{AbiError, Image, Placed};
 use std::alloc::{AllocError, Global};
 use std::fmt::Write;
 
@@ -26,11 +25,29 @@ pub fn text_of(alloc: Global, image: &Image) -> Result<Text, OutOfMemory>
 
 /// The line of a job that cannot be done.
 #[tactic(auto, unfolding(crate::specs::Lines::refused_line))]
-pub fn refused(alloc: Global, fault: Fault) -> Result<Text, OutOfMemory>
+pub fn refused(alloc: Global, fault: AbiError) -> Result<Text, OutOfMemory>
     ensures { IfOk result (λ text. text ≡ refused_line fault) }
 {
-    let line = format!(in alloc; "refused: {fault}\n")?;
-    Ok(Text::from(line))
+    let mut out = String::new(alloc);
+    out.push_str("refused: ")?;
+    push_fault(&mut out, fault)?;
+    out.push_str("\n")?;
+    Ok(Text::from(out))
+}
+
+// Want of memory is no fault of a job, and has no text.
+#[tactic(auto, unfolding(crate::specs::Lines::fault_text))]
+fn push_fault(out: &mut String, fault: AbiError) -> Result<(), AllocError>
+    ensures { OnOk result (string_bytes out.new ≡ string_bytes out.old ++ fault_text fault) }
+{
+    match fault {
+        AbiError::BadTarget => out.push_str("BadTarget"),
+        AbiError::TooManyParts => out.push_str("TooManyParts"),
+        AbiError::IllFormed { part } => write!(out, "IllFormed part {part}"),
+        AbiError::TooLarge { part } => write!(out, "TooLarge part {part}"),
+        AbiError::OutOfMemory => Ok(()),
+        AbiError::WrongValue => out.push_str("WrongValue"),
+    }
 }
 
 #[tactic(auto, unfolding(crate::specs::Lines::layout_lines))]

@@ -4,10 +4,11 @@ ghost use Rattle.std.specs.Io.KnownBytes.{Keeps};
 ghost use Rattle.abi_tool.specs.Answers.{command_of, reply_to, status_of, Answers, StatusMeans, rest_after, IsSilent};
 ghost use Rattle.abi_tool.specs.Causes.{Rose};
 
-use crate::command::{Command, command_of};
+use crate::command::command_of;
 use crate::run_document::run_document;
 use crate::sink::Sink;
 use crate::source::Source;
+use abi_document::Command;
 use abi_num::Text;
 use std::alloc::Global;
 

@@ -1,6 +1,0 @@
-use Rattle.std.proofs.Common.{◌∙◌}
-use Rattle.abi_tool.proofs.Keys.{listed}
-use Rattle.abi_tool.proofs.document.is_listed.Goals as goal
-
-pub returns : goal.returns
-returns c = c.contains.ensures.value ∙ listed c.args.names.now c.args.key.now
