@@ -1,5 +1,5 @@
 -- What it says of a description and its value that a job has no fault.
-use Rattle.std.proofs.Common.{◌≡◌, ℕ, Bool, true, false, not, Option, Some, None, cond, ltb, refl}
+use Rattle.std.proofs.Common.{◌≡◌, Bool, true, false, not, Option, Some, None, cond, ltb, refl}
 use Rattle.std.specs.Option.{option_map}
 use Rattle.abi_num.specs.Target.{is_row}
 use Rattle.abi_num.specs.declared.target.Target.{Target}
@@ -11,7 +11,6 @@ use Rattle.abi_layout.specs.declared.desc_error.DescError.TheVariants as of_desc
 use Rattle.abi_pack.specs.Descriptions.{planned}
 use Rattle.abi_pack.specs.Jobs.{of_description, value_fault, job_fault}
 use Rattle.abi_pack.specs.Plain.{Plain}
-use Rattle.abi_pack.specs.Shape.{Shape}
 use Rattle.abi_pack.specs.Shows.{fits}
 use Rattle.abi_pack.specs.declared.abi_error.AbiError.{AbiError}
 use Rattle.abi_pack.specs.declared.abi_error.AbiError.TheVariants as fault

@@ -3,11 +3,9 @@ use Rattle.std.proofs.Common.{◌≡◌, inl, inr, ℕ, ◌*◌, ◌/◌, ◌%�
 use Rattle.std.specs.Io.KnownBytes.{Appends}
 use Rattle.std.proofs.lemmas.Bool.{eq-eqb}
 use Rattle.std.specs.Int.{bit_at}
-use Rattle.std.specs.List.{list_any}
 use Rattle.serde_json.specs.Data.{Data}
 use Rattle.abi_num.specs.declared.target.Target.{Target}
 use Rattle.abi_bits.specs.Mask.{mask_at}
-use Rattle.abi_bits.specs.Forbidden.{is_match}
 use Rattle.abi_det.specs.Offers.{One}
 use Rattle.abi_layout.specs.Frames.{written_frame}
 use Rattle.abi_layout.specs.Trees.{Tree}

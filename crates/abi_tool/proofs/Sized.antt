@@ -35,9 +35,11 @@ mutual
   are_sized target first (trees.result ok err) row h =
       let whole : Option DescError = sum_fault One (first + parts ok + parts err) (written_frame One target ok) (written_frame One target err) in
       let a = no_fault (part_fault One target first ok) (or_else (part_fault One target (first + parts ok) err) whole) h in
-      let b = no_fault (part_fault One target (first + parts ok) err) whole a.1 in
-      (sized (written_frame One target ok) (written_frame One target err) (part_sound One target first ok row a.0) (part_sound One target (first + parts ok) err row b.0),
-       are_sized target first ok row a.0, are_sized target (first + parts ok) err row b.0)
+      let b = no_fault (part_fault One target (first + parts ok) err) whole a.1 in (
+        sized (written_frame One target ok) (written_frame One target err) (part_sound One target first ok row a.0) (part_sound One target (first + parts ok) err row b.0),
+        are_sized target first ok row a.0,
+        are_sized target (first + parts ok) err row b.0,
+      )
   are_sized target first (trees.option some) row h =
       let a = no_fault (part_fault One target first some) (sum_fault One (first + parts some) (written_frame One target some) unit_frame) h in
       (sized (written_frame One target some) unit_frame (part_sound One target first some row a.0) unit_sound, are_sized target first some row a.0)

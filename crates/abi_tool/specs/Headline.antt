@@ -25,7 +25,7 @@ use Rattle.abi_pack.specs.Plain.{Plain}
 use Rattle.abi_pack.specs.Shows.{Shows, IsCanonical}
 use Rattle.abi_pack.specs.Sums.{written_sums}
 use Rattle.abi_pack.specs.declared.image.Image.{Image}
-use Rattle.abi_document.specs.Documents.{PlainJob, pack, job_of}
+use Rattle.abi_document.specs.Documents.{pack, job_of}
 use Rattle.abi_document.specs.declared.command.Command.TheVariants.{Pack}
 use Rattle.abi_tool.specs.Lines.{image_text}
 use Rattle.abi_tool.specs.Reading.{reading}
