@@ -206,6 +206,35 @@ fn sums_of_structs_are_packed(rt: HostRuntime) -> Result<(), Fail> {
 }
 
 #[test]
+fn structs_are_packed(rt: HostRuntime) -> Result<(), Fail> {
+    let option = format!(in rt.alloc(); "{{\"option\":{PAIR}}}")?;
+    let aligned =
+        r#"{"struct":{"name":"S","module":"demo","fields":[["f0","u32"],["f1","u8"]],"align":16}}"#;
+    let empty = r#"{"struct":{"name":"S","module":"demo","fields":[]}}"#;
+    for (desc, value, text) in [
+        (
+            option.as_str(),
+            "\"none\"",
+            "size 8\nalign 4\nniches 0\nindirections no\nfree 5:254 6:255 7:255\nforbidden\nsum 3 place 0 front 0 ok 0 err 0 bit 5:1 means err\nbytes 0000000000010000\n",
+        ),
+        // The requested alignment adds bytes that are not free.
+        (
+            aligned,
+            "[1,2]",
+            "size 16\nalign 16\nniches many\nindirections no\nfree 5:255 6:255 7:255\nforbidden\nbytes 01000000020000000000000000000000\n",
+        ),
+        (
+            empty,
+            "[]",
+            "size 0\nalign 1\nniches 0\nindirections no\nfree\nforbidden\nbytes\n",
+        ),
+    ] {
+        assert!(rt; is_packed(rt.alloc(), desc, value, 0, text)?, "{desc}");
+    }
+    Ok(())
+}
+
+#[test]
 fn integers_may_stand_in_texts(rt: HostRuntime) -> Result<(), Fail> {
     for (desc, value, size, bytes) in [
         ("u32", "5", 4, "05000000"),
