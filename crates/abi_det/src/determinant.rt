@@ -1,8 +1,10 @@
-ghost use Rattle.std.specs.Prelude.{◌≡◌, ◌<◌, ◌↔◌, IsTrue, not, length, slice_index};
+ghost use Rattle.std.specs.Prelude.{◌≡◌, ◌<◌, ◌↔◌, IsTrue, IfOk, not, length, slice_index};
 ghost use Rattle.abi_bits.specs.Pairs.{are_below, is_matched};
 ghost use Rattle.abi_det.specs.State.{put_pairs, put_bits};
 
 use abi_bits::Pattern;
+use abi_num::OutOfMemory;
+use std::alloc::Global;
 
 /// What tells the variant of a sum: a test of its bytes, and what the test's truth means.
 #[derive(Debug, Drop)]
@@ -68,6 +70,17 @@ impl Determinant {
     {
         !matches!(self.test, Test::BitDeterminant)
     }
+
+    /// An equal determinant.
+    pub fn copy(&self, alloc: Global) -> Result<Determinant, OutOfMemory>
+        ensures { IfOk result (λ copy. copy ≡ self.now) }
+    {
+        let test = self.test.copy(alloc)?;
+        Ok(Determinant {
+            not: self.not,
+            test,
+        })
+    }
 }
 
 impl Test {
@@ -98,6 +111,23 @@ impl Test {
                 }
             }
             Test::BitIsErr { offset, mask } => put_bits(sum, *offset, *mask, sign),
+        }
+    }
+
+    /// An equal test.
+    fn copy(&self, alloc: Global) -> Result<Test, OutOfMemory>
+        ensures { IfOk result (λ copy. copy ≡ self.now) }
+    {
+        match self {
+            Test::BitDeterminant => Ok(Test::BitDeterminant),
+            Test::ValueIsErr(pattern) => {
+                let pattern = pattern.copy(alloc)?;
+                Ok(Test::ValueIsErr(pattern))
+            }
+            Test::BitIsErr { offset, mask } => Ok(Test::BitIsErr {
+                offset: *offset,
+                mask: *mask,
+            }),
         }
     }
 }

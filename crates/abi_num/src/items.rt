@@ -70,6 +70,14 @@ impl<T: Copy> Items<T> {
     }
 }
 
+impl<T> From<Vec<T>> for Items<T> {
+    ghost from_gives = { λ vec list. list ≡ vec.items };
+
+    fn from(items: Vec<T>) -> Self {
+        Items { items }
+    }
+}
+
 impl<T: PartialEq> PartialEq for Items<T> {
     ghost eq = { pointwise T.eq };
 

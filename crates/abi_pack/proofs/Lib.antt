@@ -25,3 +25,4 @@ pub mod Tagged
 pub mod Plans
 pub mod StructPlans
 pub mod SumPlans
+pub mod Walking

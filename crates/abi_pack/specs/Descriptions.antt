@@ -6,6 +6,7 @@ use Rattle.abi_det.specs.Frame.{Frame}
 use Rattle.abi_det.specs.Offers.{Rules}
 use Rattle.abi_det.specs.Roles.{union_size}
 use Rattle.abi_det.specs.Written.{written_placement}
+use Rattle.abi_det.specs.declared.placements.Placement.{Placement}
 use Rattle.abi_layout.specs.Builders.{start_after}
 use Rattle.abi_layout.specs.Prims.{unit_frame}
 use Rattle.abi_layout.specs.Structs.{end_of, fields_align, struct_frame}
@@ -45,15 +46,18 @@ form_of target primitive.NonZeroU32 = int_form target width.Four false false
 form_of target primitive.NonZeroU64 = int_form target width.Eight false false
 form_of target primitive.NonZeroU128 = int_form target width.Sixteen false false
 
--- where the variants of a sum stand by its written placement, counted from its first byte
-abbrev pub spot_of : Rules → Frame → Frame → Spot
-spot_of rules ok err = record {
-  ok = (written_placement rules ok err).front + (written_placement rules ok err).ok_shift;
-  err = (written_placement rules ok err).front + (written_placement rules ok err).err_shift;
-  size = union_size ok err + (written_placement rules ok err).front;
-  determinant = (written_placement rules ok err).determinant;
-  free = (written_placement rules ok err).exported;
+-- where the variants of a sum of `size` bytes stand by its placement, counted from its first byte
+abbrev pub spot_at : ℕ → Placement → Spot
+spot_at size p = record {
+  ok = p.front + p.ok_shift;
+  err = p.front + p.err_shift;
+  size = size;
+  determinant = p.determinant;
+  free = p.exported;
 }
+
+abbrev pub spot_of : Rules → Frame → Frame → Spot
+spot_of rules ok err = spot_at (union_size ok err + (written_placement rules ok err).front) (written_placement rules ok err)
 
 -- how many bytes after the last field are free
 abbrev pub free_tail : List Frame → ℕ

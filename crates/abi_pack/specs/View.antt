@@ -31,6 +31,11 @@ shape = fold-Part Shape Behind part_step field_step
 abbrev pub shapes : ℕ → ℕ → List PartField → Shapes
 shapes free tail fields = fields_of free tail (map (λ f. (f.gap, shape f.part)) fields)
 
+-- fields in front of others
+abbrev pub fronted : List PartField → Shapes → Shapes
+fronted [] rest = rest
+fronted (f ∷ fs) rest = field f.gap (shape f.part) (fronted fs rest)
+
 abbrev pub plains_of : List Plain → Plains
 plains_of [] = end
 plains_of (v ∷ vs) = more v (plains_of vs)

@@ -11,6 +11,7 @@ pub mod laws;
 mod layers;
 mod part;
 mod plan;
+mod planner;
 mod primitive;
 mod read;
 mod shown;

@@ -1,0 +1,18 @@
+use Rattle.std.proofs.Common.{◌≡◌, ◌≤◌, ◌+◌, arith}
+use Rattle.abi_det.specs.Offers.{One}
+use Rattle.abi_layout.specs.Faults.{sum_fault}
+use Rattle.abi_pack.proofs.Walking.{starts_inside, memory_fault}
+use Rattle.abi_pack.proofs.planner.sum_plan.Goals as goal
+
+pub taken_apart-requires-clause-ok : goal.taken_apart-requires-clause-ok
+taken_apart-requires-clause-ok c =
+    let inside = starts_inside c.args.ok.layout c.args.err.layout c.in_ok-placement.placement c.in_ok-placement.layout c.requires.ok c.requires.err
+    c.in_ok-placement.ensures.ok.1 c.in_ok-placement.ensures.ok.2 c.size.ensures.lawful in omega (arith, inside.0)
+
+pub taken_apart-requires-clause-err : goal.taken_apart-requires-clause-err
+taken_apart-requires-clause-err c =
+    let inside = starts_inside c.args.ok.layout c.args.err.layout c.in_ok-placement.placement c.in_ok-placement.layout c.requires.ok c.requires.err
+    c.in_ok-placement.ensures.ok.1 c.in_ok-placement.ensures.ok.2 c.size.ensures.lawful in omega (arith, inside.1)
+
+pub returns-in_err-insert-clause-err : goal.returns-in_err-insert-clause-err
+returns-in_err-insert-clause-err c = memory_fault c.from_residual-in_err-insert.result (sum_fault One c.args.err.next c.args.ok.layout c.args.err.layout) c.from_residual-in_err-insert.ensures.1
