@@ -7,7 +7,7 @@ use Rattle.std.proofs.lemmas.Nat.{pow_below, xor_lt}
 use Rattle.std.proofs.lemmas.Nat.Bits.{bit_at-lt, bit_at_xor, bit_at-pow_same, bit_at-pow_other}
 use Rattle.abi_pack.specs.Agree.{Agree}
 use Rattle.abi_pack.specs.Image.{Image, AreBytes, bytes_of}
-use Rattle.abi_pack.specs.Laws.{bit_of, Holds, IsFree, IsImageOf, flipped, CanonicalLaw, UniqueLaw, FitLaw, HeldLaw, FlipLaw, FreeLaw, ChangeLaw, ItemLaw, PackedLaw}
+use Rattle.abi_pack.specs.Laws.{bit_of, Holds, IsFree, IsImageOf, flipped, CanonicalLaw, UniqueLaw, FitLaw, HeldLaw, FlipLaw, FreeLaw, ChangeLaw, ItemLaw, PackedLaw, PackedCanonicalLaw}
 use Rattle.abi_pack.specs.Packed.{packed}
 use Rattle.abi_pack.specs.Plain.{Plain}
 use Rattle.abi_pack.specs.Shape.{Shape, size}
@@ -60,7 +60,7 @@ one_image s v bs cs sound b c =
     same_byte (get_or bs i 0) (get_or cs i 0) (b.string.bytes i) (c.string.bytes i)
     (λ k small. canonical_bit s v (bytes_of bs) (bytes_of cs) sound b.canonical c.canonical i k low small (two_truths (holds s v i k))))
 
-pub packed_image : (s : Shape) (v : Plain) → IsSound s → fits s v ≡ true → IsImageOf s v (packed s v)
+pub packed_image : PackedCanonicalLaw
 packed_image s v sound fit = record {
   string = record { long = packed_length s v sound fit; bytes = packed_small s v sound fit };
   canonical = packed_canonical s v sound fit;

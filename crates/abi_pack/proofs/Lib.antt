@@ -26,3 +26,4 @@ pub mod Plans
 pub mod StructPlans
 pub mod SumPlans
 pub mod Walking
+pub mod Promised

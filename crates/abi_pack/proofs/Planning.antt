@@ -12,6 +12,8 @@ use Rattle.abi_pack.specs.Shows.{Shows, fits, IsCanonical}
 use Rattle.abi_pack.specs.Sound.{IsSound}
 use Rattle.abi_pack.specs.Told.{is_shown, told}
 use Rattle.abi_pack.proofs.Canons.{packed_canonical}
+use Rattle.abi_pack.specs.Laws.{IsImageOf}
+use Rattle.abi_pack.proofs.Lawful.{packed_image}
 use Rattle.abi_pack.proofs.Telling.{shown_value, shown_where}
 
 pub from_zero : (f : Image) → from 0 f ≡ f
@@ -40,6 +42,10 @@ pub plan_written : (p q : Part) (v : Plain) (out : List ℕ) → p ≡ q → IsP
     → IsCanonical (shape q) v (bytes_of out)
 plan_written p q v out e planned fit is =
     subst (λ r. fits (shape r) v ≡ true → IsCanonical (shape r) v (bytes_of out)) e (λ fit_. written_canonical (shape p) v out planned.0 fit_ is) fit
+
+pub plan_image : (p q : Part) (v : Plain) (out : List ℕ) → p ≡ q → IsPlanned (shape p) → fits (shape q) v ≡ true → out ≡ packed (shape p) v → IsImageOf (shape q) v out
+plan_image p q v out e planned fit is =
+    subst (λ r. fits (shape r) v ≡ true → IsImageOf (shape r) v out) e (λ fit_. rw is (packed_image (shape p) v planned.0 fit_)) fit
 
 pub plan_length : (p q : Part) (bs : List ℕ) (n : ℕ) → p ≡ q → length bs ≡ n → n ≡ size (shape p) → length bs ≡ size (shape q)
 plan_length p q bs n e long is = long ∙ is ∙ ap (λ r. size (shape r)) e

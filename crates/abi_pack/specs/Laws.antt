@@ -4,6 +4,7 @@ use Rattle.std.specs.Int.{bit_at}
 use Rattle.std.specs.List.{list_any}
 use Rattle.abi_bits.specs.Forbidden.{is_match}
 use Rattle.abi_pack.specs.Image.{Image, AreBytes, bytes_of}
+use Rattle.abi_pack.specs.Packed.{packed}
 use Rattle.abi_pack.specs.Plain.{Plain}
 use Rattle.abi_pack.specs.Shape.{Shape, size, is_free, items}
 use Rattle.abi_pack.specs.Shows.{Shows, fits, holds, IsCanonical}
@@ -71,3 +72,7 @@ ItemLaw = (s : Shape) (v : Plain) (f : Image) → Shows s v f → list_any (is_m
 -- two values have equal canonical bytes exactly where they are equal
 abbrev pub PackedLaw : Type 0
 PackedLaw = (s : Shape) (v w : Plain) (bs cs : List ℕ) → IsSound s → IsImageOf s v bs → IsImageOf s w cs → (bs ≡ cs) ↔ (v ≡ w)
+
+-- the bytes that packing computes are the value's canonical ones
+abbrev pub PackedCanonicalLaw : Type 0
+PackedCanonicalLaw = (s : Shape) (v : Plain) → IsSound s → fits s v ≡ true → IsImageOf s v (packed s v)

@@ -8,6 +8,7 @@ ghost use Rattle.abi_pack.specs.View.{plain};
 
 use crate::abi_error::AbiError;
 use crate::image::Image;
+use crate::plan::Plan;
 use crate::step::Edit;
 use crate::value::Value;
 use abi_layout::Desc;
@@ -16,6 +17,7 @@ use std::alloc::Global;
 
 /// Packs a value of a description. There must be no edits. Refused with the first fault: that of `layout_of`,
 /// then `WrongValue` where the value is none of the description's.
+#[tactic(auto, using(crate::proofs::Promised::wrong_value, crate::proofs::Promised::no_job_fault, crate::proofs::Promised::image_made))]
 pub fn run(
     alloc: Global,
     target: &Target,
@@ -29,5 +31,10 @@ pub fn run(
     ensures canonical { IfOk result (λ image. IsImageOf (planned One target.now (tree desc.now)) (plain value.now) image.bytes) }
     ensures err { IfErr result (IsJobFault (job_fault One target.now (tree desc.now) (plain value.now))) }
 {
-    Err(AbiError::OutOfMemory)
+    let plan = Plan::of(alloc, target, desc)?;
+    if !plan.fits(value) {
+        return Err(AbiError::WrongValue);
+    }
+    let bytes = plan.packed(alloc, value)?;
+    Ok(plan.into_image(bytes))
 }

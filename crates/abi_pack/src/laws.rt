@@ -1,7 +1,7 @@
 //! What holds of packed bytes, whatever the plan: each function's clause is a law.
 
 ghost use Rattle.abi_pack.specs.PlanLaws.{PlanLaw};
-ghost use Rattle.abi_pack.specs.Laws.{CanonicalLaw, UniqueLaw, FitLaw, HeldLaw, FlipLaw, FreeLaw, ChangeLaw, ItemLaw, PackedLaw};
+ghost use Rattle.abi_pack.specs.Laws.{CanonicalLaw, UniqueLaw, FitLaw, HeldLaw, FlipLaw, FreeLaw, ChangeLaw, ItemLaw, PackedLaw, PackedCanonicalLaw};
 
 /// Every value that fits has exactly one canonical byte string.
 #[tactic(auto, using(crate::proofs::Lawful::canonical_law))]
@@ -55,6 +55,11 @@ pub fn no_item_matches()
 #[tactic(auto, using(crate::proofs::Lawful::packed_law))]
 pub fn equal_bytes_equal_values()
     ensures { PackedLaw }
+{}
+
+/// The bytes that packing computes are the value's canonical ones.
+pub fn packing_is_canonical()
+    ensures { PackedCanonicalLaw }
 {}
 
 /// The plan of a description without a fault has the size, the free bits and the forbidden items of its

@@ -5,22 +5,25 @@ ghost use Rattle.abi_layout.specs.Frames.{written_frame};
 ghost use Rattle.abi_layout.specs.Faults.{IsFault, desc_fault};
 ghost use Rattle.abi_pack.specs.Descriptions.{planned};
 ghost use Rattle.abi_pack.specs.Sums.{written_sums};
+ghost use Rattle.abi_pack.specs.Laws.{IsImageOf};
+ghost use Rattle.abi_pack.specs.Packed.{packed};
 ghost use Rattle.abi_pack.specs.Reading.{IsShown, IsReading};
 ghost use Rattle.abi_pack.specs.Shape.{size as size_of};
 ghost use Rattle.abi_pack.specs.Shows.{fits, IsCanonical};
 ghost use Rattle.abi_pack.specs.View.{shape, plain};
 
 use crate::fits::fits;
-use crate::image::PlacedList;
+use crate::image::{Image, PlacedList};
 use crate::part::Part;
+use crate::planner::part_plan;
 use crate::read::read;
 use crate::shown::is_shown;
 use crate::sizes::size;
-use crate::value::Value;
-use crate::write::write;
+use crate::value::{Bytes, Value};
+use crate::write::{packed, write};
 use abi_det::Layout;
-use abi_layout::{Desc, DescError};
-use abi_num::Target;
+use abi_layout::{Desc, DescError, check_description};
+use abi_num::{Items, OutOfMemory, Target};
 use std::alloc::Global;
 use std::marker::Model;
 
@@ -62,6 +65,7 @@ impl Model for Plan {
 
 impl Plan {
     /// The plan of a description on a target. Refused as `layout_of` is.
+    #[tactic(auto, using(abi_layout::proofs::Steps::faultless))]
     pub fn of(alloc: Global, target: &Target, desc: &Desc) -> Result<Plan, DescError>
         ensures part { IfOk result (λ p. shape p.part ≡ planned One target.now (tree desc.now)) }
         ensures layout { IfOk result (λ p. p.layout ≡ written_frame One target.now (tree desc.now)) }
@@ -69,7 +73,14 @@ impl Plan {
         ensures faultless { IfOk result (λ _. desc_fault One target.now (tree desc.now) ≡ None) }
         ensures err { IfErr result (IsFault (desc_fault One target.now (tree desc.now))) }
     {
-        Err(DescError::OutOfMemory)
+        check_description(target, desc)?;
+        let mut sums = Vec::new(alloc);
+        let found = part_plan(alloc, target, 0, desc, &mut sums)?;
+        Ok(Plan {
+            part: found.part,
+            layout: found.layout,
+            placed: Items::from(sums),
+        })
     }
 
     /// The layout of the description.
@@ -102,6 +113,27 @@ impl Plan {
         ensures { IsCanonical (shape self.now.part) (plain value.now) (slice_index out.new) }
     {
         write(&self.part, value, out);
+    }
+
+    /// The canonical bytes of the value, which must fit.
+    pub(crate) fn packed(&self, alloc: Global, value: &Value) -> Result<Bytes, OutOfMemory>
+        requires fits { fits (shape self.now.part) (plain value.now) ≡ true }
+        ensures bytes { IfOk result (λ bytes. bytes ≡ packed (shape self.now.part) (plain value.now)) }
+        ensures canonical { IfOk result (λ bytes. IsImageOf (shape self.now.part) (plain value.now) bytes) }
+    {
+        let bytes = packed(alloc, &self.part, value)?;
+        Ok(bytes)
+    }
+
+    /// An image of these bytes, with the layout and the packed sums of the description.
+    pub(crate) fn into_image(self, bytes: Bytes) -> Image
+        ensures { result ≡ record { layout = self.layout; placed = self.sums; bytes = bytes } }
+    {
+        Image {
+            layout: self.layout,
+            placed: self.placed,
+            bytes,
+        }
     }
 
     /// Whether there are as many bytes as the description has, and they show a value. Takes no memory.

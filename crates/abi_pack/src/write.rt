@@ -1,4 +1,4 @@
-ghost use Rattle.std.specs.Prelude.{◌≡◌, ℕ, true, ◌+◌, ◌≤◌, ◌<◌, ◌^◌, length};
+ghost use Rattle.std.specs.Prelude.{◌≡◌, ℕ, true, ◌+◌, ◌≤◌, ◌<◌, ◌^◌, length, IfOk};
 ghost use Rattle.abi_pack.specs.Packed.{packed, packed_in, placed};
 ghost use Rattle.abi_pack.specs.Shape.{size, size_in};
 ghost use Rattle.abi_pack.specs.Shows.{fits, fits_in};
@@ -7,7 +7,21 @@ ghost use Rattle.abi_pack.specs.View.{shape, shapes, plain, plains};
 
 use crate::part::{Part, PartField};
 use crate::sizes::size;
-use crate::value::Value;
+use crate::value::{Bytes, Value};
+use abi_num::{Items, OutOfMemory};
+use std::alloc::Global;
+
+/// The value's canonical bytes.
+pub(crate) fn packed(alloc: Global, part: &Part, value: &Value) -> Result<Bytes, OutOfMemory>
+    requires sound { IsSound (shape part.now) }
+    requires small { size (shape part.now) < 2 ^ 32 }
+    requires fits { fits (shape part.now) (plain value.now) ≡ true }
+    ensures { IfOk result (λ bytes. bytes ≡ packed (shape part.now) (plain value.now)) }
+{
+    let mut bytes = vec![in alloc; 0; size(part)]?;
+    write(part, value, &mut bytes);
+    Ok(Items::from(bytes))
+}
 
 /// Writes the value's canonical bytes, whatever stood there.
 #[cycle(write)]
