@@ -1,0 +1,6 @@
+pub mod Fields
+pub mod Keys
+pub mod Levels
+pub mod Lists
+pub mod Numerals
+pub mod Pairs

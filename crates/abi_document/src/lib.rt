@@ -2,8 +2,12 @@
 #![tactic(auto)]
 
 mod command;
+mod descriptions;
 mod documents;
+mod forms;
+mod integers;
 mod job;
+mod values;
 
 pub use command::Command;
 pub use documents::job_of;

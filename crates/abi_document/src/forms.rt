@@ -1,0 +1,113 @@
+//! Forms of JSON that documents are made of.
+
+ghost use Rattle.std.specs.Prelude.{◌≡◌, ◌&&◌, nat_le, map, option_map, string_bytes};
+ghost use Rattle.std.specs.List.{list_all};
+ghost use Rattle.std.specs.BTreeMap.{keys};
+ghost use Rattle.serde_json.specs.View.{view};
+ghost use Rattle.abi_document.specs.Forms.{is_listed, has_only, is_text, only, pair_of, is_name, name_of, long_of, word_of};
+
+use serde_json::{Map, Value as Json};
+
+/// The longest name, in bytes.
+const LONGEST_NAME: usize = 256;
+
+/// Whether the tree is an object, each of whose keys is one of these names.
+pub fn has_only(names: &[&str], json: &Json) -> bool
+    ensures { result ≡ has_only (map (λ name. name.now) names.now) (view json.now) }
+{
+    match json.as_object() {
+        Some(members) => keys_listed(names, members),
+        None => false,
+    }
+}
+
+fn keys_listed(names: &[&str], members: &Map<String, Json>) -> bool
+    ensures { result ≡ list_all (λ key. is_listed (map (λ name. name.now) names.now) (string_bytes key)) (keys members.now) }
+{
+    members.keys().all(|key| is_listed(names, key.as_str()))
+}
+
+fn is_listed(names: &[&str], key: &str) -> bool
+    ensures { result ≡ is_listed (map (λ name. name.now) names.now) key.now }
+{
+    names.contains(&key)
+}
+
+/// Whether the tree is this text.
+pub fn is_text(json: &Json, text: &str) -> bool
+    ensures { result ≡ is_text text.now (view json.now) }
+{
+    match json.as_str() {
+        Some(found) => found == text,
+        None => false,
+    }
+}
+
+/// What an object with this key alone holds; `None` exactly where the tree is no such object.
+pub fn only<'t>(key: &str, json: &'t Json) -> Option<&'t Json>
+    ensures { option_map (λ held. view held.now) result ≡ only key.now (view json.now) }
+{
+    let members = json.as_object()?;
+    if members.len() != 1 {
+        return None;
+    }
+    let (name, held) = members.iter().next()?;
+    if name.as_str() == key {
+        Some(held)
+    } else {
+        None
+    }
+}
+
+/// The two of an array of two; `None` exactly where the tree is no such array.
+pub fn pair_of(json: &Json) -> Option<(&Json, &Json)>
+    ensures { option_map (λ pair. (view pair.0.now, view pair.1.now)) result ≡ pair_of (view json.now) }
+{
+    match json.as_array()?.as_slice() {
+        [first, second] => Some((first, second)),
+        _ => None,
+    }
+}
+
+/// A name: at most 256 bytes from space to `~`. `None` exactly where the tree is none.
+pub fn name_of(json: &Json) -> Option<&str>
+    ensures { option_map (λ name. name.now) result ≡ name_of (view json.now) }
+{
+    let text = json.as_str()?;
+    if is_name(text) {
+        Some(text)
+    } else {
+        None
+    }
+}
+
+fn is_name(text: &str) -> bool
+    ensures { result ≡ is_name text.now }
+{
+    text.len() <= LONGEST_NAME && are_printable(text.as_bytes())
+}
+
+fn are_printable(text: &[u8]) -> bool
+    ensures { result ≡ list_all (λ c. nat_le 32 c && nat_le c 126) text.now }
+{
+    text.iter().all(|byte| 32 <= *byte && *byte <= 126)
+}
+
+/// A JSON integer of 64 bits without sign; `None` exactly where the tree is none.
+pub fn long_of(json: &Json) -> Option<u64>
+    ensures { result ≡ long_of (view json.now) }
+{
+    json.as_u64()
+}
+
+/// A JSON integer of 32 bits without sign; `None` exactly where the tree is none.
+pub fn word_of(json: &Json) -> Option<u32>
+    ensures { result ≡ word_of (view json.now) }
+{
+    let number = long_of(json)?;
+    if number < 4294967296 {
+        Some(number as u32)
+    } else {
+        None
+    }
+}
