@@ -27,7 +27,7 @@ plain_some (c ∷ cs) p = omega arith
 pub parsed : {E : Type 0} (text : List ℕ) (r : Result ℕ E) (n : ℕ) → ParsesUnsigned 128 10 text r → is_plain text ≡ true → r ≡ Ok n → Some n ≡ magnitude_of text
 unfolding magnitude_of
 parsed text r n h p e =
-    let told : OkIff (Ok n) ((0 < length text) × (spelled 0 text < 2 ^ 128)) (spelled 0 text) = rw e at (parse_digits own 128 text r h (plain_digits text p)) in
+    let told : ((0 < length text) × (spelled 0 text < 2 ^ 128)) × (n ≡ spelled 0 text) = rw e at (parse_digits own 128 text r h (plain_digits text p)) in
     rw (p, lt-ltb (spelled 0 text) (2 ^ 128) told.0.1) (ap Some told.1)
 
 not_below : (m n : ℕ) → (m < n → ⊥) → ltb m n ≡ false

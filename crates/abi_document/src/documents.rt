@@ -72,7 +72,7 @@ fn target_of(tree: &Value) -> Option<Target>
 }
 
 fn desc_in(alloc: Global, tree: &Value) -> Result<Option<Desc>, OutOfMemory>
-    ensures { IfOk result (λ desc. option_map trees.tree desc ≡ get (codes "desc") (view tree.now) >>= desc_at levels) }
+    ensures { IfOk result (λ desc. option_map trees.tree desc ≡ option_and_then (desc_at levels) (get (codes "desc") (view tree.now))) }
 {
     match tree.get("desc") {
         Some(desc) => desc_at(alloc, LEVELS, desc),
@@ -81,7 +81,7 @@ fn desc_in(alloc: Global, tree: &Value) -> Result<Option<Desc>, OutOfMemory>
 }
 
 fn value_in(alloc: Global, tree: &Value) -> Result<Option<Given>, OutOfMemory>
-    ensures { IfOk result (λ value. option_map plain value ≡ get (codes "value") (view tree.now) >>= value_at levels) }
+    ensures { IfOk result (λ value. option_map plain value ≡ option_and_then (value_at levels) (get (codes "value") (view tree.now))) }
 {
     match tree.get("value") {
         Some(value) => value_at(alloc, LEVELS, value),
