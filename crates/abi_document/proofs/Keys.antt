@@ -6,9 +6,9 @@ use Rattle.std.specs.Map.{keys_of}
 use Rattle.std.specs.Prelude.{String}
 use Rattle.std.specs.declared.alloc.Global.{Global}
 use Rattle.serde_json.specs.declared.value.Value.{Value}
-use Rattle.serde_json.specs.Data.{Data, null, boolean, number, string, array, object, Items, Members}
-use Rattle.serde_json.specs.Find.{as_array, as_object}
-use Rattle.serde_json.specs.View.{items_view, members_view}
+use Rattle.serde_json.specs.Data.{Data, null, boolean, number, string, array, object, Members}
+use Rattle.serde_json.specs.Find.{as_object}
+use Rattle.serde_json.specs.View.{members_view}
 use Rattle.abi_document.specs.Forms.{is_listed, keys_listed, has_only, only_member, only}
 
 pub listed : (names : List (Bor (List ℕ))) (key : List ℕ) → list_any (λ y. bytes_eq y.now key) names ≡ is_listed (map (λ n. n.now) names) key

@@ -1,5 +1,5 @@
 -- One level of a description or a value.
-use Rattle.std.proofs.Common.{◌≡◌, ℕ, zero, suc, ◌<◌, ◌-◌, None, refl, ap, arith}
+use Rattle.std.proofs.Common.{◌≡◌, ℕ, zero, suc, ◌<◌, ◌-◌, None, refl, arith}
 use Rattle.serde_json.specs.Data.{Data}
 use Rattle.abi_document.specs.Descriptions.{desc_step, desc_at}
 use Rattle.abi_document.specs.Values.{value_step, value_at}

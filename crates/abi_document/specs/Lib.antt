@@ -3,3 +3,4 @@ pub mod Integers
 pub mod Descriptions
 pub mod Values
 pub mod Documents
+pub mod Laws

@@ -182,7 +182,11 @@ fn align_of(json: Option<&Json>) -> Option<Option<u64>>
 
 #[cycle(reading)]
 #[tactic(auto, using(crate::proofs::Fields::go_on, crate::proofs::Fields::stop, crate::proofs::Fields::at_end))]
-fn fields_of(alloc: Global, levels: usize, items: &[Json]) -> Result<Option<FieldDescs>, OutOfMemory>
+fn fields_of(
+    alloc: Global,
+    levels: usize,
+    items: &[Json],
+) -> Result<Option<FieldDescs>, OutOfMemory>
     ensures { IfOk result (λ fields. option_map branches fields ≡ fields_of (desc_at levels) (items_view items.now)) }
 {
     let mut fields = FieldDescs::new(alloc);

@@ -74,11 +74,7 @@ pub fn name_of(json: &Json) -> Option<&str>
     ensures { option_map (λ name. name.now) result ≡ name_of (view json.now) }
 {
     let text = json.as_str()?;
-    if is_name(text) {
-        Some(text)
-    } else {
-        None
-    }
+    if is_name(text) { Some(text) } else { None }
 }
 
 fn is_name(text: &str) -> bool

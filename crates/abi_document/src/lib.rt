@@ -7,6 +7,9 @@ mod documents;
 mod forms;
 mod integers;
 mod job;
+pub mod laws;
+#[cfg(test)]
+mod tests;
 mod values;
 
 pub use command::Command;
