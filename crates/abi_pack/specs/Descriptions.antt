@@ -56,6 +56,7 @@ spot_at size p = record {
   free = p.exported;
 }
 
+-- by the written placement
 abbrev pub spot_of : Rules → Frame → Frame → Spot
 spot_of rules ok err = spot_at (union_size ok err + (written_placement rules ok err).front) (written_placement rules ok err)
 

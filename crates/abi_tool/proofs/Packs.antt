@@ -12,11 +12,9 @@ use Rattle.abi_layout.specs.Trees.{Tree}
 use Rattle.abi_pack.specs.Descriptions.{planned}
 use Rattle.abi_pack.specs.Image.{Image as Bytes, AreBytes, bytes_of}
 use Rattle.abi_pack.specs.Jobs.{job_fault, image_of}
-use Rattle.abi_pack.specs.Laws.{IsImageOf}
 use Rattle.abi_pack.specs.Packed.{packed}
 use Rattle.abi_pack.specs.Plain.{Plain}
 use Rattle.abi_pack.specs.PlanLaws.{IsPlanFor}
-use Rattle.abi_pack.specs.Shape.{Shape}
 use Rattle.abi_pack.specs.Shows.{Shows, fits}
 use Rattle.abi_pack.specs.Sound.{IsSound}
 use Rattle.abi_pack.specs.declared.abi_error.AbiError.{AbiError}
@@ -34,10 +32,6 @@ use Rattle.abi_tool.specs.Answers.{code_of, reply_to_reading, reply_to_bytes, Re
 use Rattle.abi_tool.specs.Headline.{AgreesOutside, ShowsOnly, Packs}
 use Rattle.abi_tool.proofs.Faultless.{IsFaultless, faultless}
 use Rattle.abi_tool.proofs.Sized.{are_sized}
-
--- the packed bytes of a value that fits are canonical
-packed_canonical : (s : Shape) (v : Plain) → IsSound s → fits s v ≡ true → IsImageOf s v (packed s v)
-packed_canonical s v sound fit = packed_image s v sound fit
 
 -- ---- an image that differs in free bits alone
 
@@ -64,7 +58,7 @@ unfolding image_of
 packs_job bytes old new tree target desc value r j f w =
     let n : IsFaultless One target desc value = faultless One target desc value f in
     let plan = faultless_planned One target desc n.row n.parts in
-    let p = packed_canonical (planned One target desc) value plan.sound n.fit in
+    let p = packed_image (planned One target desc) value plan.sound n.fit in
     record {
       tree = tree;
       target = target;
