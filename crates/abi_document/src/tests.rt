@@ -1,9 +1,9 @@
 use crate::{Command, Job, Work, job_of};
-use abi_layout::{Desc, Field, Prim};
+use abi_layout::Desc;
 use abi_num::Target;
 use abi_pack::Value;
 use serde_json::Value as Json;
-use std::alloc::Global;
+use std::alloc::{AllocError, Global};
 use std::test::Fail;
 
 fn job_of_text(alloc: Global, text: &str) -> Result<Option<Job>, Fail> {
@@ -17,173 +17,9 @@ fn job(alloc: Global, desc: &str, value: &str) -> Result<Option<Job>, Fail> {
     job_of_text(alloc, &text)
 }
 
-fn desc_of(job: &Job) -> &Desc {
-    let Work::Pack { desc, .. } = &job.work;
-    desc
-}
-
-fn value_of(job: &Job) -> &Value {
-    let Work::Pack { value, .. } = &job.work;
-    value
-}
-
-fn desc_kind(desc: &Desc) -> &'static str {
+fn push_desc(alloc: Global, out: &mut String, desc: &Desc) -> Result<(), AllocError> {
     match desc {
-        Desc::Prim(_) => "primitive",
-        Desc::Struct { .. } => "struct",
-        Desc::Result { .. } => "result",
-        Desc::Option { .. } => "option",
-    }
-}
-
-fn value_kind(value: &Value) -> &'static str {
-    match value {
-        Value::Unit => "unit",
-        Value::Int { .. } => "integer",
-        Value::Bool(_) => "boolean",
-        Value::Order(_) => "order",
-        Value::Bytes(_) => "bytes",
-        Value::List(_) => "list",
-        Value::Ok(_) => "ok",
-        Value::Err(_) => "err",
-        Value::Some(_) => "some",
-        Value::None => "none",
-    }
-}
-
-fn is_integer(value: &Value, is_negative: bool, distance: u128) -> bool {
-    match value {
-        Value::Int {
-            magnitude,
-            negative,
-        } => *magnitude == distance && *negative == is_negative,
-        _ => false,
-    }
-}
-
-#[test]
-fn each_primitive_has_a_name(rt: HostRuntime) -> Result<(), Fail> {
-    let rows = [
-        ("()", Prim::Unit),
-        ("bool", Prim::Bool),
-        ("u8", Prim::U8),
-        ("u16", Prim::U16),
-        ("u32", Prim::U32),
-        ("u64", Prim::U64),
-        ("u128", Prim::U128),
-        ("i8", Prim::I8),
-        ("i16", Prim::I16),
-        ("i32", Prim::I32),
-        ("i64", Prim::I64),
-        ("i128", Prim::I128),
-        ("NonZeroU8", Prim::NonZeroU8),
-        ("NonZeroU16", Prim::NonZeroU16),
-        ("NonZeroU32", Prim::NonZeroU32),
-        ("NonZeroU64", Prim::NonZeroU64),
-        ("NonZeroU128", Prim::NonZeroU128),
-    ];
-    for (name, primitive) in rows {
-        let quoted = format!(in rt.alloc(); "\"{name}\"")?;
-        let is_named = match job(rt.alloc(), &quoted, "null")? {
-            Some(job) => match desc_of(&job) {
-                Desc::Prim(found) => *found == primitive,
-                _ => false,
-            },
-            None => false,
-        };
-        assert!(rt; is_named, "{name}");
-    }
-    Ok(())
-}
-
-#[test]
-fn integers_of_json_and_of_texts(rt: HostRuntime) -> Result<(), Fail> {
-    let rows = [
-        ("0", false, 0),
-        ("7", false, 7),
-        ("-1", true, 1),
-        ("-9223372036854775808", true, 9223372036854775808),
-        ("18446744073709551615", false, 18446744073709551615),
-        ("\"0\"", false, 0),
-        ("\"-10\"", true, 10),
-        ("\"18446744073709551616\"", false, 18446744073709551616),
-        (
-            "\"-170141183460469231731687303715884105728\"",
-            true,
-            170141183460469231731687303715884105728,
-        ),
-        (
-            "\"340282366920938463463374607431768211455\"",
-            false,
-            340282366920938463463374607431768211455,
-        ),
-    ];
-    for (text, negative, magnitude) in rows {
-        let is_told = match job(rt.alloc(), "\"()\"", text)? {
-            Some(job) => is_integer(value_of(&job), negative, magnitude),
-            None => false,
-        };
-        assert!(rt; is_told, "{text}");
-    }
-    Ok(())
-}
-
-#[test]
-fn each_form_of_value(rt: HostRuntime) -> Result<(), Fail> {
-    let rows = [
-        ("null", "unit"),
-        ("true", "boolean"),
-        ("1", "integer"),
-        ("[]", "list"),
-        ("[0,[null,\"-1\"],{\"ok\":[]}]", "list"),
-        ("{\"ok\":{\"err\":null}}", "ok"),
-        ("{\"err\":1}", "err"),
-        ("{\"some\":\"none\"}", "some"),
-        ("\"none\"", "none"),
-    ];
-    for (text, kind) in rows {
-        let is_kind = match job(rt.alloc(), "\"()\"", text)? {
-            Some(job) => value_kind(value_of(&job)) == kind,
-            None => false,
-        };
-        assert!(rt; is_kind, "{text}");
-    }
-    Ok(())
-}
-
-// Whether the value is a list of the integers from 1 up to that many.
-fn counts_to(value: &Value, count: usize) -> bool {
-    match value {
-        Value::List(values) => {
-            let values = values.as_slice();
-            values.len() == count
-                && (0..count).all(|i| is_integer(&values[i], false, i as u128 + 1))
-        }
-        _ => false,
-    }
-}
-
-#[test]
-fn lists_keep_their_order(rt: HostRuntime) -> Result<(), Fail> {
-    let is_kept = match job(rt.alloc(), "\"()\"", "[1,2,3]")? {
-        Some(job) => counts_to(value_of(&job), 3),
-        None => false,
-    };
-    assert!(rt; is_kept);
-    Ok(())
-}
-
-fn is_bool(desc: &Desc) -> bool {
-    match desc {
-        Desc::Prim(primitive) => *primitive == Prim::Bool,
-        _ => false,
-    }
-}
-
-// Whether the description is the struct `A` of module `m` with this version, alignment and number of
-// fields, the first of which is `a`, a truth value.
-fn is_struct(desc: &Desc, said: u32, requested: Option<u64>, count: usize) -> bool {
-    match desc {
+        Desc::Prim(primitive) => out.push_str(&format!(in alloc; "{primitive:?}")?),
         Desc::Struct {
             name,
             module,
@@ -191,70 +27,161 @@ fn is_struct(desc: &Desc, said: u32, requested: Option<u64>, count: usize) -> bo
             fields,
             align,
         } => {
-            let fields = fields.as_slice();
-            let is_declared = name.as_str() == "A" && module.as_str() == "m";
-            let is_first = match fields.first() {
-                Some(Field { name, ty }) => name.as_str() == "a" && is_bool(ty),
-                None => count == 0,
-            };
-            is_declared
-                && *version == said
-                && *align == requested
-                && fields.len() == count
-                && is_first
+            let (name, module) = (name.as_str(), module.as_str());
+            out.push_str(&format!(in alloc; "{module}.{name} {version} {align:?} [")?)?;
+            for field in fields.as_slice() {
+                out.push_str(field.name.as_str())?;
+                out.push_str(": ")?;
+                push_desc(alloc, out, &field.ty)?;
+                out.push_str(",")?;
+            }
+            out.push_str("]")
         }
-        _ => false,
+        Desc::Result { ok, err } => {
+            out.push_str("result of ")?;
+            push_desc(alloc, out, ok)?;
+            out.push_str(" and ")?;
+            push_desc(alloc, out, err)
+        }
+        Desc::Option { some } => {
+            out.push_str("option of ")?;
+            push_desc(alloc, out, some)
+        }
     }
 }
 
+fn push_value(alloc: Global, out: &mut String, value: &Value) -> Result<(), AllocError> {
+    match value {
+        Value::Unit => out.push_str("unit"),
+        Value::Int {
+            magnitude,
+            negative,
+        } => {
+            let sign = if *negative { "-" } else { "+" };
+            out.push_str(&format!(in alloc; "{sign}{magnitude}")?)
+        }
+        Value::Bool(truth) => out.push_str(if *truth { "true" } else { "false" }),
+        Value::Order(_) => out.push_str("order"),
+        Value::Bytes(_) => out.push_str("bytes"),
+        Value::List(values) => {
+            out.push_str("[")?;
+            for value in values.as_slice() {
+                push_value(alloc, out, value)?;
+                out.push_str(",")?;
+            }
+            out.push_str("]")
+        }
+        Value::Ok(payload) => {
+            out.push_str("ok ")?;
+            push_value(alloc, out, payload)
+        }
+        Value::Err(payload) => {
+            out.push_str("err ")?;
+            push_value(alloc, out, payload)
+        }
+        Value::Some(payload) => {
+            out.push_str("some ")?;
+            push_value(alloc, out, payload)
+        }
+        Value::None => out.push_str("none"),
+    }
+}
+
+// What a job tells: description, `=`, value. Nothing where there is no job.
+fn told(alloc: Global, job: Option<Job>) -> Result<String, Fail> {
+    let mut out = String::new(alloc);
+    if let Some(job) = job {
+        let Work::Pack { desc, value, .. } = &job.work;
+        push_desc(alloc, &mut out, desc)?;
+        out.push_str(" = ")?;
+        push_value(alloc, &mut out, value)?;
+    }
+    Ok(out)
+}
+
 #[test]
-fn structs_with_and_without_version_and_alignment(rt: HostRuntime) -> Result<(), Fail> {
+fn descriptions_of_each_form(rt: HostRuntime) -> Result<(), Fail> {
     let rows = [
-        ("\"fields\":[]", 0, None, 0),
-        ("\"fields\":[[\"a\",\"bool\"]]", 0, None, 1),
-        ("\"fields\":[],\"version\":4294967295", 4294967295, None, 0),
+        ("\"()\"", "Unit"),
+        ("\"bool\"", "Bool"),
+        ("\"u8\"", "U8"),
+        ("\"u16\"", "U16"),
+        ("\"u32\"", "U32"),
+        ("\"u64\"", "U64"),
+        ("\"u128\"", "U128"),
+        ("\"i8\"", "I8"),
+        ("\"i16\"", "I16"),
+        ("\"i32\"", "I32"),
+        ("\"i64\"", "I64"),
+        ("\"i128\"", "I128"),
+        ("\"NonZeroU8\"", "NonZeroU8"),
+        ("\"NonZeroU16\"", "NonZeroU16"),
+        ("\"NonZeroU32\"", "NonZeroU32"),
+        ("\"NonZeroU64\"", "NonZeroU64"),
+        ("\"NonZeroU128\"", "NonZeroU128"),
+        ("{\"option\":{\"option\":\"u8\"}}", "option of option of U8"),
         (
-            "\"align\":16,\"version\":2,\"fields\":[[\"a\",\"bool\"],[\"\",{\"option\":\"u8\"}]]",
-            2,
-            Some(16),
-            2,
+            "{\"result\":[{\"option\":\"bool\"},{\"result\":[\"()\",\"u8\"]}]}",
+            "result of option of Bool and result of Unit and U8",
+        ),
+        (
+            "{\"struct\":{\"name\":\"A\",\"module\":\"m\",\"fields\":[]}}",
+            "m.A 0 None []",
+        ),
+        (
+            "{\"struct\":{\"fields\":[[\"a\",\"bool\"],[\"\",{\"option\":\"u8\"}]],\"name\":\"A\",\"module\":\"m::n\",\"version\":4294967295}}",
+            "m::n.A 4294967295 None [a: Bool,: option of U8,]",
+        ),
+        (
+            "{\"struct\":{\"align\":16,\"version\":2,\"name\":\"\",\"module\":\"\",\"fields\":[]}}",
+            ". 2 Some(16) []",
         ),
     ];
-    for (text, version, align, count) in rows {
-        let desc = format!(in rt.alloc();
-            "{{\"struct\":{{\"name\":\"A\",\"module\":\"m\",{text}}}}}"
-        )?;
-        let is_told = match job(rt.alloc(), &desc, "null")? {
-            Some(job) => is_struct(desc_of(&job), version, align, count),
-            None => false,
-        };
-        assert!(rt; is_told, "{desc}");
+    for (desc, text) in rows {
+        let expected = format!(in rt.alloc(); "{text} = unit")?;
+        assert_eq!(rt; told(rt.alloc(), job(rt.alloc(), desc, "null")?)?, expected);
     }
     Ok(())
 }
 
-// Whether the description is a result of an option of a truth value, and of another result.
-fn is_nested(desc: &Desc) -> bool {
-    match desc {
-        Desc::Result { ok, err } => {
-            let is_option = match &**ok {
-                Desc::Option { some } => is_bool(some),
-                _ => false,
-            };
-            is_option && desc_kind(err) == "result"
-        }
-        _ => false,
-    }
-}
-
 #[test]
-fn results_and_options_nest(rt: HostRuntime) -> Result<(), Fail> {
-    let desc = "{\"result\":[{\"option\":\"bool\"},{\"result\":[\"()\",\"u8\"]}]}";
-    let is_told = match job(rt.alloc(), desc, "{\"ok\":\"none\"}")? {
-        Some(job) => { is_nested(desc_of(&job)) && Some(job.target) == Target::named("le64") }
-        None => false,
-    };
-    assert!(rt; is_told);
+fn values_of_each_form(rt: HostRuntime) -> Result<(), Fail> {
+    let rows = [
+        ("null", "unit"),
+        ("true", "true"),
+        ("false", "false"),
+        ("0", "+0"),
+        ("7", "+7"),
+        ("-1", "-1"),
+        ("-9223372036854775808", "-9223372036854775808"),
+        ("18446744073709551615", "+18446744073709551615"),
+        ("\"0\"", "+0"),
+        ("\"-10\"", "-10"),
+        ("\"18446744073709551616\"", "+18446744073709551616"),
+        (
+            "\"-170141183460469231731687303715884105728\"",
+            "-170141183460469231731687303715884105728",
+        ),
+        (
+            "\"340282366920938463463374607431768211455\"",
+            "+340282366920938463463374607431768211455",
+        ),
+        ("[]", "[]"),
+        (
+            "[1,2,[null,\"-3\"],{\"ok\":[]}]",
+            "[+1,+2,[unit,-3,],ok [],]",
+        ),
+        ("{\"ok\":{\"err\":null}}", "ok err unit"),
+        ("{\"some\":\"none\"}", "some none"),
+        ("{\"ok\":3,\"ok\":4}", "ok +4"),
+    ];
+    for (value, text) in rows {
+        let expected = format!(in rt.alloc(); "Unit = {text}")?;
+        assert_eq!(rt;
+            told(rt.alloc(), job(rt.alloc(), "\"()\"", value)?)?,
+            expected
+        );
+    }
     Ok(())
 }
 
@@ -297,22 +224,6 @@ fn trees_that_are_no_description(rt: HostRuntime) -> Result<(), Fail> {
 }
 
 #[test]
-fn names_of_256_bytes_and_of_257(rt: HostRuntime) -> Result<(), Fail> {
-    for (count, is_name) in [(256, true), (257, false)] {
-        let name = "~".repeat(rt.alloc(), count)?;
-        let desc = format!(in rt.alloc();
-            "{{\"struct\":{{\"name\":\" \",\"module\":\"{name}\",\"fields\":[]}}}}"
-        )?;
-        assert_eq!(rt; job(rt.alloc(), &desc, "null")?.is_some(), is_name);
-        let desc = format!(in rt.alloc();
-            "{{\"struct\":{{\"name\":\"{name}\",\"module\":\" \",\"fields\":[]}}}}"
-        )?;
-        assert_eq!(rt; job(rt.alloc(), &desc, "null")?.is_some(), is_name);
-    }
-    Ok(())
-}
-
-#[test]
 fn trees_that_are_no_value(rt: HostRuntime) -> Result<(), Fail> {
     let rows = [
         "1.5",
@@ -345,10 +256,46 @@ fn trees_that_are_no_value(rt: HostRuntime) -> Result<(), Fail> {
 }
 
 #[test]
+fn names_of_256_bytes_and_of_257(rt: HostRuntime) -> Result<(), Fail> {
+    for (count, is_name) in [(256, true), (257, false)] {
+        let name = "~".repeat(rt.alloc(), count)?;
+        let desc = format!(in rt.alloc();
+            "{{\"struct\":{{\"name\":\" \",\"module\":\"{name}\",\"fields\":[]}}}}"
+        )?;
+        assert_eq!(rt; job(rt.alloc(), &desc, "null")?.is_some(), is_name);
+        let desc = format!(in rt.alloc();
+            "{{\"struct\":{{\"name\":\"{name}\",\"module\":\" \",\"fields\":[]}}}}"
+        )?;
+        assert_eq!(rt; job(rt.alloc(), &desc, "null")?.is_some(), is_name);
+    }
+    Ok(())
+}
+
+#[test]
+fn parts_nest_as_deep_as_documents_do(rt: HostRuntime) -> Result<(), Fail> {
+    let desc = format!(in rt.alloc();
+        "{}\"u8\"{}",
+        "{\"option\":".repeat(rt.alloc(), 126)?,
+        "}".repeat(rt.alloc(), 126)?
+    )?;
+    let value = format!(in rt.alloc();
+        "{}1{}",
+        "[".repeat(rt.alloc(), 126)?,
+        "]".repeat(rt.alloc(), 126)?
+    )?;
+    assert!(rt; job(rt.alloc(), &desc, &value)?.is_some());
+    Ok(())
+}
+
+#[test]
 fn documents_have_exactly_their_keys(rt: HostRuntime) -> Result<(), Fail> {
     let rows = [
         ("{\"target\":\"le64\",\"desc\":\"()\",\"value\":null}", true),
         ("{\"value\":null,\"desc\":\"()\",\"target\":\"le64\"}", true),
+        (
+            "{\"target\":\"be64\",\"desc\":1,\"value\":null,\"target\":\"le64\",\"desc\":\"()\"}",
+            true,
+        ),
         ("{}", false),
         ("[\"le64\",\"()\",null]", false),
         ("{\"desc\":\"()\",\"value\":null}", false),
@@ -375,36 +322,7 @@ fn documents_have_exactly_their_keys(rt: HostRuntime) -> Result<(), Fail> {
             "{text}"
         );
     }
-    Ok(())
-}
-
-#[test]
-fn the_last_of_a_repeated_key_counts(rt: HostRuntime) -> Result<(), Fail> {
-    let text =
-        "{\"target\":\"be64\",\"desc\":\"()\",\"value\":1,\"target\":\"le64\",\"value\":{\"ok\":3,\"ok\":\"none\"}}";
-    let is_last = match job_of_text(rt.alloc(), text)? {
-        Some(job) => match value_of(&job) {
-            Value::Ok(payload) => value_kind(payload) == "none",
-            _ => false,
-        },
-        None => false,
-    };
-    assert!(rt; is_last);
-    Ok(())
-}
-
-#[test]
-fn parts_nest_as_deep_as_documents_do(rt: HostRuntime) -> Result<(), Fail> {
-    let desc = format!(in rt.alloc();
-        "{}\"u8\"{}",
-        "{\"option\":".repeat(rt.alloc(), 126)?,
-        "}".repeat(rt.alloc(), 126)?
-    )?;
-    let value = format!(in rt.alloc();
-        "{}1{}",
-        "[".repeat(rt.alloc(), 126)?,
-        "]".repeat(rt.alloc(), 126)?
-    )?;
-    assert!(rt; job(rt.alloc(), &desc, &value)?.is_some());
+    let job = job(rt.alloc(), "\"()\"", "null")?;
+    assert!(rt; job.map(|job| job.target) == Target::named("le64"));
     Ok(())
 }
