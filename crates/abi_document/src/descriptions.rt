@@ -74,6 +74,7 @@ fn prim_of(json: &Json) -> Option<Prim>
     }
 }
 
+/// The option of a description, if there is one.
 fn option_of(alloc: Global, some: Option<Desc>) -> Result<Option<Desc>, OutOfMemory>
     ensures { IfOk result (λ desc. option_map tree desc ≡ option_map trees.option (option_map tree some)) }
 {
@@ -102,6 +103,7 @@ fn result_of(alloc: Global, levels: usize, json: &Json) -> Result<Option<Desc>, 
     Ok(Some(result_desc(alloc, ok, err)?))
 }
 
+/// The packed sum of two descriptions.
 fn result_desc(alloc: Global, ok: Desc, err: Desc) -> Result<Desc, OutOfMemory>
     ensures { IfOk result (λ desc. tree desc ≡ trees.result (tree ok) (tree err)) }
 {
@@ -148,12 +150,14 @@ fn struct_of(alloc: Global, levels: usize, json: &Json) -> Result<Option<Desc>, 
     }))
 }
 
+/// The name under a key of an object; `None` exactly where there is none.
 fn name_under<'j>(key: &str, json: &'j Json) -> Option<&'j str>
     ensures { option_map (λ name. name.now) result ≡ option_and_then name_of (get key.now (view json.now)) }
 {
     name_of(json.get(key)?)
 }
 
+/// The items of the array under a key of an object; `None` exactly where there is none.
 fn items_under<'j>(key: &str, json: &'j Json) -> Option<&'j [Json]>
     ensures { option_map (λ items. items_view items.now) result ≡ option_and_then as_array (get key.now (view json.now)) }
 {
@@ -180,6 +184,7 @@ fn align_of(json: Option<&Json>) -> Option<Option<u64>>
     }
 }
 
+/// Fields in order; `None` exactly where an item is no field.
 #[cycle(reading)]
 #[tactic(auto, using(crate::proofs::Fields::go_on, crate::proofs::Fields::stop, crate::proofs::Fields::at_end))]
 fn fields_of(

@@ -32,6 +32,7 @@ pub fn job_of(alloc: Global, command: Command, tree: &Value) -> Result<Option<Jo
     }
 }
 
+/// The job of an object with exactly the keys `target`, `desc` and `value`; `None` exactly where the tree is none.
 fn pack_job(alloc: Global, tree: &Value) -> Result<Option<Job>, OutOfMemory>
     ensures told { IfOk result (λ job. option_map plain_job job ≡ pack_job (view tree.now)) }
     ensures no_edits { IfOk result (λ job. IfSome job (λ j. HasNoEdits j.work)) }
@@ -55,12 +56,14 @@ fn pack_job(alloc: Global, tree: &Value) -> Result<Option<Job>, OutOfMemory>
     }))
 }
 
+/// The target under the key `target`; `None` exactly where there is none.
 fn target_in(tree: &Value) -> Option<Target>
     ensures { result ≡ option_and_then target_of (get (codes "target") (view tree.now)) }
 {
     target_of(tree.get("target")?)
 }
 
+/// A target by its name; `None` exactly where the tree is none.
 fn target_of(tree: &Value) -> Option<Target>
     ensures { result ≡ target_of (view tree.now) }
 {
@@ -71,6 +74,7 @@ fn target_of(tree: &Value) -> Option<Target>
     }
 }
 
+/// The description under the key `desc`; `None` exactly where there is none.
 fn desc_in(alloc: Global, tree: &Value) -> Result<Option<Desc>, OutOfMemory>
     ensures { IfOk result (λ desc. option_map trees.tree desc ≡ option_and_then (desc_at levels) (get (codes "desc") (view tree.now))) }
 {
@@ -80,6 +84,7 @@ fn desc_in(alloc: Global, tree: &Value) -> Result<Option<Desc>, OutOfMemory>
     }
 }
 
+/// The value under the key `value`; `None` exactly where there is none.
 fn value_in(alloc: Global, tree: &Value) -> Result<Option<Given>, OutOfMemory>
     ensures { IfOk result (λ value. option_map plain value ≡ option_and_then (value_at levels) (get (codes "value") (view tree.now))) }
 {

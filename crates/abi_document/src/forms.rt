@@ -21,12 +21,14 @@ pub fn has_only(names: &[&str], json: &Json) -> bool
     }
 }
 
+/// Whether each key is one of these names.
 fn keys_listed(names: &[&str], members: &Map<String, Json>) -> bool
     ensures { result ≡ list_all (λ key. is_listed (map (λ name. name.now) names.now) (string_bytes key)) (keys members.now) }
 {
     members.keys().all(|key| is_listed(names, key.as_str()))
 }
 
+/// Whether the key is one of these names.
 fn is_listed(names: &[&str], key: &str) -> bool
     ensures { result ≡ is_listed (map (λ name. name.now) names.now) key.now }
 {
@@ -77,12 +79,14 @@ pub fn name_of(json: &Json) -> Option<&str>
     if is_name(text) { Some(text) } else { None }
 }
 
+/// Whether the text is at most 256 bytes from space to `~`.
 fn is_name(text: &str) -> bool
     ensures { result ≡ is_name text.now }
 {
     text.len() <= LONGEST_NAME && are_printable(text.as_bytes())
 }
 
+/// Whether each byte is one from space to `~`.
 fn are_printable(text: &[u8]) -> bool
     ensures { result ≡ list_all (λ c. nat_le 32 c && nat_le c 126) text.now }
 {

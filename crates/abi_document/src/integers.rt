@@ -21,6 +21,7 @@ pub fn integer_text(text: &str) -> Option<Value>
     }
 }
 
+/// The integer of digits with a `-` in front, or without; `None` exactly where the text spells none.
 fn signed_text(text: &str) -> Option<Value>
     ensures { option_map plain result ≡ signed_text text.now }
 {
@@ -30,6 +31,7 @@ fn signed_text(text: &str) -> Option<Value>
     }
 }
 
+/// The integer of digits, below 0 or not; `None` exactly where they spell no magnitude.
 fn signed_magnitude(negative: bool, digits: &str) -> Option<Value>
     ensures { option_map plain result ≡ option_map (signed_by negative) (magnitude_of digits.now) }
 {
@@ -37,6 +39,7 @@ fn signed_magnitude(negative: bool, digits: &str) -> Option<Value>
     Some(signed_by(negative, magnitude))
 }
 
+/// The integer of a magnitude, below 0 or not.
 fn signed_by(negative: bool, magnitude: u128) -> Value
     ensures { plain result ≡ signed_by negative magnitude }
 {
@@ -46,6 +49,7 @@ fn signed_by(negative: bool, magnitude: u128) -> Value
     }
 }
 
+/// The number below 2^128 that digits spell, the first of them not 0; `None` exactly where they spell none.
 #[tactic(auto, unfolding(crate::specs::Integers::magnitude_of))]
 fn magnitude_of(digits: &str) -> Option<u128>
     ensures { result ≡ magnitude_of digits.now }
@@ -69,6 +73,7 @@ fn is_plain(text: &str) -> bool
     }
 }
 
+/// Whether each byte is a digit.
 fn all_digits(text: &[u8]) -> bool
     ensures { result ≡ list_all is_ascii_digit text.now }
 {

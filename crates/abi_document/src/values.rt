@@ -45,6 +45,7 @@ fn value_step(alloc: Global, levels: usize, json: &Json) -> Result<Option<Value>
     }
 }
 
+/// An integer that JSON does not hold as a float; `None` exactly where it holds one.
 fn number_value(number: &Number) -> Option<Value>
     ensures { option_map plain result ≡ option_map integer_of (as_integer (number_view number.now)) }
 {
@@ -62,12 +63,14 @@ fn text_value(text: &str) -> Option<Value>
     }
 }
 
+/// The list of these values, where each item was one.
 fn list_of(values: Option<Values>) -> Option<Value>
     ensures { option_map plain result ≡ option_map list (option_map plains values) }
 {
     Some(Value::List(values?))
 }
 
+/// Values in order; `None` exactly where an item is no value.
 #[cycle(reading)]
 #[tactic(auto, using(crate::proofs::Lists::go_on, crate::proofs::Lists::stop, crate::proofs::Lists::at_end))]
 fn values_of(alloc: Global, levels: usize, items: &[Json]) -> Result<Option<Values>, OutOfMemory>
@@ -101,6 +104,7 @@ fn variant_of(alloc: Global, levels: usize, json: &Json) -> Result<Option<Value>
     }
 }
 
+/// The variant `Ok` of a payload, if there is one.
 fn ok_of(alloc: Global, payload: Option<Value>) -> Result<Option<Value>, OutOfMemory>
     ensures { IfOk result (λ value. option_map plain value ≡ option_map (variant sort.OfResult true) (option_map plain payload)) }
 {
@@ -111,6 +115,7 @@ fn ok_of(alloc: Global, payload: Option<Value>) -> Result<Option<Value>, OutOfMe
     Ok(Some(Value::Ok(payload)))
 }
 
+/// The variant `Err` of a payload, if there is one.
 fn err_of(alloc: Global, payload: Option<Value>) -> Result<Option<Value>, OutOfMemory>
     ensures { IfOk result (λ value. option_map plain value ≡ option_map (variant sort.OfResult false) (option_map plain payload)) }
 {
@@ -121,6 +126,7 @@ fn err_of(alloc: Global, payload: Option<Value>) -> Result<Option<Value>, OutOfM
     Ok(Some(Value::Err(payload)))
 }
 
+/// The variant `Some` of a payload, if there is one.
 fn some_of(alloc: Global, payload: Option<Value>) -> Result<Option<Value>, OutOfMemory>
     ensures { IfOk result (λ value. option_map plain value ≡ option_map (variant sort.OfOption true) (option_map plain payload)) }
 {
