@@ -7,3 +7,4 @@ pub mod Masks
 pub mod Merging
 pub mod Searching
 pub mod Sets
+pub mod Walking

@@ -29,6 +29,10 @@ abbrev pub IsNext : List Pair → ℕ → Option Pair → Type 0
 IsNext es from None = (at : ℕ) → from ≤ at → mask_at es at ≡ 0
 IsNext es from (Some e) = (from ≤ e.0) × (0 < e.1) × (mask_at es e.0 ≡ e.1) × ((at : ℕ) → from ≤ at → at < e.0 → mask_at es at ≡ 0)
 
+-- the sets have the same bytes from `from` on
+abbrev pub SameFrom : ℕ → List Pair → List Pair → Type 0
+SameFrom from es fs = (at : ℕ) → from ≤ at → mask_at es at ≡ mask_at fs at
+
 -- the entries of the set whose byte at each offset below n has the bits that `bits` tells
 unfoldable pub entries_below : (ℕ → ℕ) → ℕ → List Pair
 entries_below bits zero = []

@@ -1,4 +1,4 @@
-ghost use Rattle.std.specs.Prelude.{◌≡◌, ◌↔◌, ◌≤◌, ◌<◌, ◌+◌, ◌-◌, ◌*◌, ◌/◌, ◌%◌, ◌^◌, ◌⊎◌, ℕ, ◌++◌, ◌==◌, ◌∷◌, [], nat_le, nat_lt, bit_and, bit_or, bit_xor, IsTrue, IsSome, IfSome, IfOk, OnOk, OnErr, if◌then◌else◌};
+ghost use Rattle.std.specs.Prelude.{◌≡◌, ◌↔◌, ◌≤◌, ◌<◌, ◌+◌, ◌-◌, ◌*◌, ◌/◌, ◌%◌, ◌^◌, ◌⊎◌, ℕ, ◌++◌, ◌==◌, ◌∷◌, [], nat_le, nat_lt, bit_and, bit_or, bit_xor, IsTrue, IsSome, IfSome, IfOk, OnOk, OnErr, length, slice_index, if◌then◌else◌};
 ghost use Rattle.std.specs.Int.{bit_at};
 ghost use Rattle.std.specs.List.{find};
 ghost use Rattle.std.specs.Option.{option_map};
@@ -8,6 +8,7 @@ ghost use Rattle.abi_bits.specs.Mask.{is_mask, IsMask, mask_at, Has, have_bits, 
 use crate::Pairs;
 use crate::merge::{Join, merged};
 use crate::pairs::{are_below, are_rising, moved, push_moved, push_some};
+use crate::walk::Walk;
 use abi_num::{Items, OutOfMemory};
 use std::alloc::Global;
 use std::marker::Model;
@@ -92,6 +93,14 @@ impl BitMask {
         first_from(self.entries.as_slice(), from)
     }
 
+    /// A walk over the bytes of the set by rising offsets. Takes no memory.
+    pub fn walk(&self) -> Walk<'_>
+        ensures same { result ≡ self.now }
+        ensures valid { IsMask self.now }
+    {
+        Walk::new(self.entries.as_slice())
+    }
+
     /// The bits at the byte at offset `at`; 0 where none stands.
     #[tactic(auto, using(crate::proofs::Masks::byte_at_next))]
     pub fn byte_at(&self, at: u64) -> u8
@@ -103,6 +112,20 @@ impl BitMask {
             Some((offset, mask)) if offset == at => mask,
             _ => 0,
         }
+    }
+
+    /// The bits at each of the first `size` bytes, one byte each. Takes as long as the set has bytes, and
+    /// `size`.
+    pub fn bytes(&self, alloc: Global, size: u64) -> Result<Items<u8>, OutOfMemory>
+        ensures length { IfOk result (λ bytes. length bytes ≡ size) }
+        ensures same { IfOk result (λ bytes. (at : ℕ) → at < size → slice_index bytes at ≡ mask_at self.now at) }
+    {
+        let mut walk = self.walk();
+        let mut bytes = Items::new(alloc);
+        for at in 0..size {
+            bytes.push(walk.byte_at(at))?;
+        }
+        Ok(bytes)
     }
 
     /// Adds the bits `mask` at the byte at offset `at`, which lies past every byte of the set.

@@ -11,6 +11,7 @@ mod saturating_add_value;
 mod single_forbidden_value;
 #[cfg(test)]
 mod tests;
+mod walk;
 
 use abi_num::Items;
 pub use bit_mask::BitMask;
@@ -19,6 +20,7 @@ pub use pairs::are_rising;
 pub use pattern::Pattern;
 pub use saturating_add_value::SaturatingAddValue;
 pub use single_forbidden_value::SingleForbiddenValue;
+pub use walk::Walk;
 
 /// The greatest size of anything laid out, in bytes; every offset lies below it.
 pub const MAX_SIZE: u64 = 1048576;

@@ -1,6 +1,4 @@
-use Rattle.std.proofs.Common.{◌≡◌, ◌+◌, ◌-◌, ◌/◌, ◌<◌, ◌≤◌, ℕ, List, length, rules, arith, ◌∙◌}
-use Rattle.std.specs.List.{slice_get}
-use Rattle.abi_bits.specs.Pairs.{Pair}
+use Rattle.std.proofs.Common.{◌≡◌, ◌+◌, ◌-◌, ◌/◌, ◌<◌, ℕ, length, arith}
 use Rattle.abi_bits.proofs.Searching.{all_before, first_some, first_none}
 use Rattle.abi_bits.proofs.bit_mask.first_from.Goals as goal
 

@@ -1,4 +1,4 @@
-use Rattle.std.proofs.Common.{◌≡◌, ℕ, ◌-◌, ◌<◌, ◌≤◌, get_or, length, slice_index_or}
+use Rattle.std.proofs.Common.{ℕ, ◌-◌, ◌<◌, ◌≤◌, get_or, length}
 use Rattle.abi_bits.specs.Pairs.{Pair}
 use Rattle.abi_bits.proofs.bit_mask.first_from.Given as goal
 
