@@ -1,5 +1,5 @@
 -- Blocking bytes, pattern by pattern.
-use Rattle.std.proofs.Common.{◌≡◌, ℕ, Bool, true, false, ◌&&◌, cond, List, [], ◌∷◌, ◌++◌, Option, Some, None, is_none, not, map, length, eqb, refl, sym, ap, ◌∙◌, arith}
+use Rattle.std.proofs.Common.{◌≡◌, ℕ, Bool, true, false, ◌&&◌, cond, List, [], ◌∷◌, ◌++◌, Option, Some, None, is_none, map, length, eqb, refl, sym, ap, ◌∙◌, arith}
 use Rattle.std.specs.Option.{option_and_then}
 use Rattle.std.specs.declared.alloc.Global.{Global}
 use Rattle.std.specs.declared.boxed.Box.{Box}
@@ -7,7 +7,7 @@ use Rattle.std.proofs.lemmas.Bool.{ne_eqb}
 use Rattle.std.proofs.lemmas.List.{map-append}
 use Rattle.abi_bits.specs.Pairs.{Pair, moved_pairs}
 use Rattle.abi_bits.specs.Mask.{entries_below, least_bit}
-use Rattle.abi_bits.specs.Forbidden.{Item, items, offered}
+use Rattle.abi_bits.specs.Forbidden.{items, offered}
 use Rattle.abi_bits.specs.declared.forbidden_values.ForbiddenValues.{ForbiddenValues, Or}
 use Rattle.abi_bits.proofs.Forbids.{items_or}
 use Rattle.abi_det.specs.Written.{is_blocking, are_blocking, is_none_named}

@@ -1,6 +1,6 @@
 -- What the two writes of a determinant leave.
-use Rattle.std.proofs.Common.{◌≡◌, ℕ, suc, ◌+◌, ◌-◌, ◌*◌, ◌^◌, ◌<◌, ◌≤◌, Bool, true, false, ◌&&◌, not, cond, eqb, ltb, leb, List, [], ◌∷◌, length, get_or, max, min, bit_and, bit_or, refl, sym, ap, ◌∙◌, inl, inr, arith}
-use Rattle.std.specs.List.{list_any, list_all}
+use Rattle.std.proofs.Common.{◌≡◌, ℕ, ◌+◌, ◌*◌, ◌^◌, ◌<◌, ◌≤◌, Bool, true, false, ◌&&◌, not, eqb, ltb, leb, List, [], ◌∷◌, length, get_or, bit_and, bit_or, refl, sym, ap, ◌∙◌, inl, inr, arith}
+use Rattle.std.specs.List.{list_any}
 use Rattle.std.specs.Int.{bit_at, bit_not, w8}
 use Rattle.std.proofs.Math.ListN.{set}
 use Rattle.std.proofs.lemmas.List.{get_or-set_same, get_or-set_other, length-set}
@@ -8,10 +8,8 @@ use Rattle.std.proofs.lemmas.Bool.{and_parts, and_from, or_parts, or_from, ltb-t
 use Rattle.std.proofs.lemmas.Nat.{pow_below, pow_pos}
 use Rattle.std.proofs.lemmas.Nat.Bits.{bit_at_or, bit_at_and, bit_at_not, bit_at-pow_same, bit_at-pow_other, bit_at-lt, and_pow}
 use Rattle.abi_bits.specs.Pairs.{Pair, are_rising, are_below, is_empty, is_matched}
-use Rattle.abi_det.specs.State.{test_holds, is_tested, put_pairs, put_bits, carry}
-use Rattle.abi_det.specs.Owed.{is_carried, IsTest}
+use Rattle.abi_det.specs.State.{put_pairs, put_bits}
 use Rattle.abi_det.specs.Writes.{KeptLaw, CarriedLaw}
-use Rattle.abi_det.specs.declared.determinant.Test.{Test}
 use Rattle.abi_det.specs.declared.determinant.Test.TheVariants as test
 
 bits_set : (x m k : ℕ) → bit_at m k ≡ 0 → bit_at (bit_or x m) k ≡ bit_at x k

@@ -1,8 +1,7 @@
 -- Patterns that are moved, and bytes that lie in a union.
-use Rattle.std.proofs.Common.{◌≡◌, ℕ, ◌+◌, ◌<◌, ◌≤◌, Bool, true, false, ◌&&◌, not, List, [], ◌∷◌, cond, eqb, ltb, leb, refl, sym, ap, ◌∙◌, map, inl, inr, arith}
-use Rattle.std.specs.List.{list_all}
-use Rattle.std.proofs.lemmas.Bool.{and_parts, and_from, ltb-true, leb-true, eqb-true, lt-ltb, le-ltb, le-leb, cases_lt}
-use Rattle.abi_bits.specs.Pairs.{Pair, are_rising, are_below, is_empty, is_pattern, IsPattern, moved_pairs}
+use Rattle.std.proofs.Common.{◌≡◌, ℕ, ◌+◌, ◌<◌, ◌≤◌, true, false, ◌&&◌, not, List, [], ◌∷◌, eqb, ltb, leb, refl, map, inl, inr, arith}
+use Rattle.std.proofs.lemmas.Bool.{and_parts, and_from, leb-true, eqb-true, lt-ltb, le-ltb, le-leb, cases_lt}
+use Rattle.abi_bits.specs.Pairs.{Pair, are_rising, are_below, is_empty, IsPattern, moved_pairs}
 use Rattle.abi_det.specs.Frame.{Frame}
 use Rattle.abi_det.specs.Roles.{union_byte, lies_free}
 

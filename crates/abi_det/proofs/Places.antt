@@ -1,9 +1,9 @@
 -- The search among the places, step by step.
-use Rattle.std.proofs.Common.{◌≡◌, ℕ, zero, suc, ◌+◌, ◌*◌, ◌<◌, ◌≤◌, true, false, cond, eqb, Option, Some, None, refl, sym, ap, ◌∙◌, option_map, inl, inr, arith, add-one}
+use Rattle.std.proofs.Common.{◌≡◌, ℕ, zero, suc, ◌+◌, ◌*◌, ◌<◌, ◌≤◌, true, false, eqb, Some, None, refl, sym, inl, inr, arith, add-one}
 use Rattle.std.proofs.lemmas.Bool.{eqb-true, eq-eqb, cases_lt}
 use Rattle.abi_det.specs.Frame.{Frame}
 use Rattle.abi_det.specs.Roles.{larger, smaller, union_size, is_place}
-use Rattle.abi_det.specs.Offers.{Rules, One, Niche, or_else, numbered, offer_at, first_offer}
+use Rattle.abi_det.specs.Offers.{Rules, One, Niche, offer_at, first_offer}
 use Rattle.abi_det.specs.Written.{written_placement, niched, tagged}
 use Rattle.abi_det.specs.Search.{niche_of}
 use Rattle.abi_det.specs.declared.search.Found.{Found}

@@ -1,5 +1,5 @@
 -- The written refusals, place by place.
-use Rattle.std.proofs.Common.{◌*◌, ◌<◌, eqb, map, arith, ◌≡◌, ℕ, ◌+◌, true, false, cond, List, [], ◌∷◌, ◌++◌, refl, sym, ◌∙◌, add-one, append-nil}
+use Rattle.std.proofs.Common.{◌*◌, ◌<◌, eqb, map, arith, ◌≡◌, ℕ, ◌+◌, true, false, List, [], ◌∷◌, ◌++◌, refl, ◌∙◌, add-one, append-nil}
 use Rattle.std.proofs.lemmas.Bool.{ne_eqb}
 use Rattle.abi_bits.specs.Pairs.{moved_pairs}
 use Rattle.abi_bits.specs.Forbidden.{offered}

@@ -1,5 +1,5 @@
 -- The size of a union in the form in which it is computed, and the frame of a sum with its placement.
-use Rattle.std.proofs.Common.{◌≡◌, ℕ, ◌+◌, ◌^◌, ◌<◌, ◌≤◌, max, ◌||◌, [], None, rules, refl, sym, subst, arith}
+use Rattle.std.proofs.Common.{◌≡◌, ◌+◌, ◌^◌, ◌<◌, ◌≤◌, max, ◌||◌, [], None, rules, refl, sym, subst, arith}
 use Rattle.std.specs.Int.{next_multiple_of}
 use Rattle.abi_bits.specs.Forbidden.{items, head}
 use Rattle.abi_bits.specs.declared.forbidden_values.ForbiddenValues.{End, the_lemmas}

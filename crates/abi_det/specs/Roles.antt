@@ -1,5 +1,5 @@
 -- The two variants of a sum in one union: which is the larger, where the smaller may stand, and what each leaves free.
-use Rattle.std.specs.Prelude.{ℕ, ◌+◌, ◌-◌, ◌*◌, List, Bool, ◌&&◌, nat_le, nat_lt, ◌==◌, max, bit_and, if◌then◌else◌}
+use Rattle.std.specs.Prelude.{◌≡◌, ℕ, ◌+◌, ◌-◌, ◌*◌, ◌<◌, List, Bool, ◌&&◌, nat_le, nat_lt, ◌==◌, max, bit_and, length, slice_index, if◌then◌else◌}
 use Rattle.std.specs.List.{list_all}
 use Rattle.std.specs.Int.{next_multiple_of}
 use Rattle.abi_bits.specs.Pairs.{Pair}
@@ -40,3 +40,7 @@ lies_free free ps = list_all (λ p. free p.0 == 255) ps
 abbrev pub spare_byte : Frame → Frame → ℕ → ℕ → ℕ → ℕ
 spare_byte large small shift size at =
     if small.size == 0 then mask_at large.free at else bit_and (union_byte large 0 size at) (union_byte small shift size at)
+
+-- the bytes tell the bits of the first bytes of the set, one for each
+abbrev pub AreFirstBytes : List Pair → List ℕ → Type 0
+AreFirstBytes free bytes = (at : ℕ) → at < length bytes → slice_index bytes at ≡ mask_at free at

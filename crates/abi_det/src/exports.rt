@@ -23,8 +23,9 @@ impl Roles<'_> {
         ensures { IfOk result (λ mask. mask ≡ entries_below (without test.now (spare_byte self.now.large.now self.now.small.now shift self.now.size)) self.now.size) }
     {
         let mut mask = BitMask::new(alloc);
+        let mut own = self.own_bits();
         let mut from = 0;
-        while let Some((at, byte)) = self.next_spare(shift, from) {
+        while let Some((at, byte)) = self.next_spare(shift, &mut own, from) {
             mask.push_byte(at, without(test, at, byte))?;
             from = at + 1;
         }

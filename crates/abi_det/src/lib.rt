@@ -10,6 +10,7 @@ mod raw_layout;
 mod refusals;
 mod roles;
 mod search;
+mod spare;
 mod spot;
 mod sum;
 #[cfg(test)]

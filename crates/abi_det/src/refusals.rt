@@ -116,7 +116,8 @@ impl Roles<'_> {
     fn has_no_spare(&self, shift: u64) -> bool
         ensures { result ≡ is_none (shared_bit self.now.large.now self.now.small.now self.now.size shift) }
     {
-        self.next_spare(shift, 0).is_none()
+        let mut own = self.own_bits();
+        self.next_spare(shift, &mut own, 0).is_none()
     }
 }
 

@@ -1,6 +1,6 @@
 ghost use Rattle.std.specs.Prelude.{◌≡◌, ◌≤◌, ◌<◌, ◌*◌, IsTrue, if◌then◌else◌};
 ghost use Rattle.abi_det.specs.Frame.{IsLawful};
-ghost use Rattle.abi_det.specs.Roles.{ok_is_larger, larger, smaller, sum_align, union_size, is_place};
+ghost use Rattle.abi_det.specs.Roles.{ok_is_larger, larger, smaller, sum_align, union_size, is_place, AreFirstBytes};
 
 use crate::layout::Layout;
 
@@ -15,12 +15,19 @@ pub(crate) struct Roles<'a> {
     /// The union's size in bytes.
     pub(crate) size: u64,
     pub(crate) ok_is_larger: bool,
+    /// The bits that the larger variant leaves free in its first bytes, one byte each: those that are at hand.
+    pub(crate) large_bytes: &'a [u8],
+    /// The same of the smaller variant.
+    pub(crate) small_bytes: &'a [u8],
     ghost within: { size ≤ 1048576 },
     ghost covers: { large.now.size ≤ size },
+    ghost lawful: { IsLawful large.now },
+    ghost large_at_hand: { AreFirstBytes large.now.free large_bytes.now },
+    ghost small_at_hand: { AreFirstBytes small.now.free small_bytes.now },
 }
 
 impl<'a> Roles<'a> {
-    /// The roles of the two variants of a sum.
+    /// The roles of the two variants of a sum. No free bits are at hand.
     pub(crate) fn new(ok: &'a Layout, err: &'a Layout) -> Roles<'a>
         ensures large { result.large.now ≡ larger ok.now err.now }
         ensures small { result.small.now ≡ smaller ok.now err.now }
@@ -34,6 +41,8 @@ impl<'a> Roles<'a> {
                 small: err,
                 size,
                 ok_is_larger: true,
+                large_bytes: &[],
+                small_bytes: &[],
             }
         } else {
             Roles {
@@ -41,7 +50,27 @@ impl<'a> Roles<'a> {
                 small: ok,
                 size,
                 ok_is_larger: false,
+                large_bytes: &[],
+                small_bytes: &[],
             }
+        }
+    }
+
+    /// The same roles, with these free bits of the two variants at hand.
+    pub(crate) fn with_bytes(&self, large_bytes: &'a [u8], small_bytes: &'a [u8]) -> Roles<'a>
+        requires large { AreFirstBytes self.now.large.now.free large_bytes.now }
+        requires small { AreFirstBytes self.now.small.now.free small_bytes.now }
+        ensures large { result.large.now ≡ self.now.large.now }
+        ensures small { result.small.now ≡ self.now.small.now }
+        ensures size { result.size ≡ self.now.size }
+    {
+        Roles {
+            large: self.large,
+            small: self.small,
+            size: self.size,
+            ok_is_larger: self.ok_is_larger,
+            large_bytes,
+            small_bytes,
         }
     }
 

@@ -3,16 +3,16 @@ ghost use Rattle.std.specs.List.{find};
 ghost use Rattle.abi_bits.specs.Pairs.{moved_pairs};
 ghost use Rattle.abi_bits.specs.Mask.{lowest};
 ghost use Rattle.abi_bits.specs.Forbidden.{offered};
-ghost use Rattle.abi_det.specs.Roles.{union_byte, spare_byte, is_place};
+ghost use Rattle.abi_det.specs.Roles.{union_byte, spare_byte, is_place, AreFirstBytes};
 ghost use Rattle.abi_det.specs.Offers.{One, by_pattern, by_bit, or_else, leading_pattern, smaller_pattern, larger_pattern, shared_bit, offer_at, first_offer};
-ghost use Rattle.abi_det.specs.Search.{IsNextBelow};
 
 use crate::determinant::Test;
+use crate::layout::Layout;
 use crate::placements::Kind;
 use crate::roles::{PLACES, Roles};
 use crate::spot::Spot;
-use abi_bits::{Patterns, SingleForbiddenValue};
-use abi_num::OutOfMemory;
+use abi_bits::{Pattern, Patterns, SingleForbiddenValue};
+use abi_num::{Items, OutOfMemory};
 use std::alloc::Global;
 
 /// A niche that a place offers, and the test that finds it.
@@ -52,6 +52,7 @@ impl<'a> Roles<'a> {
             layout: self.large,
             shift: 0,
             size: self.size,
+            bytes: self.large_bytes,
         }
     }
 
@@ -65,54 +66,8 @@ impl<'a> Roles<'a> {
             layout: self.small,
             shift,
             size: self.size,
+            bytes: self.small_bytes,
         }
-    }
-
-    /// The first byte of the union, at the offset `from` or past it, in which the larger variant leaves bits
-    /// free, and these bits.
-    #[tactic(auto, using(crate::proofs::Next::next_own, crate::proofs::Next::next_beside, crate::proofs::Next::next_none))]
-    fn next_free(&self, from: u64) -> Option<(u64, u8)>
-        ensures { IsNextBelow (union_byte self.now.large.now 0 self.now.size) self.now.size from result }
-    {
-        if let Some(entry) = self.large.unused().next_entry(from) {
-            return Some(entry);
-        }
-        let at = from.max(self.large.size());
-        if at < self.size {
-            Some((at, 255))
-        } else {
-            None
-        }
-    }
-
-    /// The first byte of the union, at the offset `from` or past it, in which both variants leave bits free,
-    /// and these bits. An empty smaller variant leaves all to the larger's own.
-    #[tactic(auto, using(crate::proofs::Next::next_empty))]
-    pub(crate) fn next_spare(&self, shift: u64, from: u64) -> Option<(u64, u8)>
-        ensures { IsNextBelow (spare_byte self.now.large.now self.now.small.now shift self.now.size) self.now.size from result }
-    {
-        if self.small.size() == 0 {
-            self.large.unused().next_entry(from)
-        } else {
-            self.next_shared(shift, from)
-        }
-    }
-
-    #[tactic(auto, using(crate::proofs::Next::spare_none, crate::proofs::Next::spare_is))]
-    fn next_shared(&self, shift: u64, from: u64) -> Option<(u64, u8)>
-        requires { 0 < self.now.small.now.size }
-        ensures { IsNextBelow (spare_byte self.now.large.now self.now.small.now shift self.now.size) self.now.size from result }
-    {
-        let small = self.small_spot(shift);
-        let mut at = from;
-        while let Some((next, byte)) = self.next_free(at) {
-            let both = byte & small.byte_at(next);
-            if both != 0 {
-                return Some((next, both));
-            }
-            at = next + 1;
-        }
-        None
     }
 
     /// The least bit that both variants leave free.
@@ -121,7 +76,8 @@ impl<'a> Roles<'a> {
         ensures same { option_map niche_of result ≡ by_bit (shared_bit self.now.large.now self.now.small.now self.now.size shift) }
         ensures spared { IfSome result (λ f. IsSpared (spare_byte self.now.large.now self.now.small.now shift self.now.size) f.test) }
     {
-        match self.next_spare(shift, 0) {
+        let mut own = self.own_bits();
+        match self.next_spare(shift, &mut own, 0) {
             Some((offset, byte)) => Some(Found {
                 kind: Kind::SharedBit,
                 test: Test::BitIsErr {
@@ -256,6 +212,23 @@ impl Roles<'_> {
             }
         }
         Ok(None)
+    }
+}
+
+/// The bits that a variant leaves free, one byte for each of its bytes, where the other offers a pattern that
+/// is to be looked up there; else empty.
+pub(crate) fn spread(
+    alloc: Global,
+    layout: &Layout,
+    patterns: &[Pattern],
+) -> Result<Items<u8>, OutOfMemory>
+    ensures { IfOk result (λ bytes. AreFirstBytes layout.now.free bytes) }
+{
+    if patterns.is_empty() {
+        Ok(Items::new(alloc))
+    } else {
+        let bytes = layout.unused().bytes(alloc, layout.size())?;
+        Ok(bytes)
     }
 }
 

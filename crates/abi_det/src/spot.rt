@@ -1,7 +1,8 @@
 ghost use Rattle.std.specs.Prelude.{◌≡◌, ◌≤◌, ◌<◌, IsTrue, IfOk, map, option_map, ◌+◌, [], ◌∷◌, ◌==◌};
 ghost use Rattle.std.specs.List.{find, list_any};
 ghost use Rattle.abi_bits.specs.Pairs.{are_below, moved_pairs};
-ghost use Rattle.abi_det.specs.Roles.{union_byte, lies_free};
+ghost use Rattle.abi_bits.specs.Mask.{mask_at};
+ghost use Rattle.abi_det.specs.Roles.{union_byte, lies_free, AreFirstBytes};
 ghost use Rattle.abi_bits.specs.Forbidden.{items, offered};
 ghost use Rattle.abi_det.specs.Written.{first_blocking, is_blocking, are_blocking};
 ghost use Rattle.abi_det.specs.Search.{after_blocking};
@@ -18,7 +19,10 @@ pub(crate) struct Spot<'a> {
     /// Where the variant starts, in bytes.
     pub(crate) shift: u64,
     pub(crate) size: u64,
+    /// The bits that the variant leaves free in its first bytes, one byte each: those that are at hand.
+    pub(crate) bytes: &'a [u8],
     ghost within: { size ≤ 1048576 },
+    ghost at_hand: { AreFirstBytes layout.now.free bytes.now },
 }
 
 impl Spot<'_> {
@@ -30,12 +34,22 @@ impl Spot<'_> {
             if at < self.shift {
                 255
             } else if at - self.shift < self.layout.size() {
-                self.layout.unused().byte_at(at - self.shift)
+                self.own_byte_at(at - self.shift)
             } else {
                 255
             }
         } else {
             0
+        }
+    }
+
+    /// The bits that the variant leaves free in its byte at the offset `at`: at hand, or looked up in its mask.
+    fn own_byte_at(&self, at: u64) -> u8
+        ensures { result ≡ mask_at self.now.layout.now.free at }
+    {
+        match self.bytes.get(at as usize) {
+            Some(byte) => *byte,
+            None => self.layout.unused().byte_at(at),
         }
     }
 

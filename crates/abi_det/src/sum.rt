@@ -3,17 +3,17 @@ ghost use Rattle.abi_bits.specs.Forbidden.{offered};
 ghost use Rattle.abi_det.specs.Roles.{larger, smaller, union_size, spare_byte, is_place};
 ghost use Rattle.abi_det.specs.Offers.{One};
 ghost use Rattle.abi_det.specs.Search.{niche_of, IsSpared};
-ghost use Rattle.abi_det.specs.Written.{written_placement, written_sum, niched, tagged, means_ok};
+ghost use Rattle.abi_det.specs.Written.{written_placement, written_sum, niched, tagged, means_ok, refusals_below};
 ghost use Rattle.abi_det.specs.Frame.{IsLawful};
 ghost use Rattle.abi_det.specs.FrameOf.{frame};
 
 use crate::determinant::{Determinant, Test};
 use crate::exports::beside_tag;
 use crate::layout::Layout;
-use crate::placements::{Kind, Placement};
+use crate::placements::{Kind, Placement, Refusals};
 use crate::raw_layout::RawLayout;
 use crate::roles::{Roles, sum_align, union_size};
-use crate::search::{Found, Offered};
+use crate::search::{Found, spread};
 use abi_bits::{ForbiddenValues, SaturatingAddValue};
 use abi_num::{Items, OutOfMemory};
 use std::alloc::Global;
@@ -28,13 +28,17 @@ pub fn placement(alloc: Global, ok: &Layout, err: &Layout) -> Result<Placement, 
 {
     let roles = Roles::new(ok, err);
     let patterns = roles.offered(alloc)?;
+    let large_bytes = spread(alloc, roles.large, patterns.smaller.as_slice())?;
+    let small_bytes = spread(alloc, roles.small, patterns.larger.as_slice())?;
+    let roles = roles.with_bytes(large_bytes.as_slice(), small_bytes.as_slice());
     match roles.first_offer(alloc, &patterns)? {
         Some((place, found)) => {
             let placement = niched(alloc, ok, err, place, found)?;
             Ok(placement)
         }
         None => {
-            let placement = tagged(alloc, ok, err, &patterns)?;
+            let refusals = roles.refusals(alloc, &patterns)?;
+            let placement = tagged(alloc, ok, err, refusals)?;
             Ok(placement)
         }
     }
@@ -119,15 +123,12 @@ fn tagged(
     alloc: Global,
     ok: &Layout,
     err: &Layout,
-    patterns: &Offered,
+    refusals: Refusals,
 ) -> Result<Placement, OutOfMemory>
-    requires larger { patterns.now.larger ≡ offered (larger ok.now err.now).forbids }
-    requires smaller { patterns.now.smaller ≡ offered (smaller ok.now err.now).forbids }
+    requires { refusals ≡ refusals_below (larger ok.now err.now) (smaller ok.now err.now) (union_size ok.now err.now) 8 }
     ensures same { IfOk result (λ p. p ≡ tagged ok.now err.now) }
     ensures front { IfOk result (λ p. p.front ≤ 65536) }
 {
-    let roles = Roles::new(ok, err);
-    let refusals = roles.refusals(alloc, patterns)?;
     let front = sum_align(ok, err);
     let exported = beside_tag(alloc, front)?;
     Ok(Placement {
@@ -137,7 +138,7 @@ fn tagged(
         front,
         kind: Kind::Tag,
         determinant: Determinant {
-            not: means_ok(Kind::Tag, roles.ok_is_larger),
+            not: means_ok(Kind::Tag, Roles::new(ok, err).ok_is_larger),
             test: Test::BitDeterminant,
         },
         exported,

@@ -1,4 +1,4 @@
-use Rattle.std.proofs.Common.{◌≡◌, rules, sym}
+use Rattle.std.proofs.Common.{◌≡◌, rules}
 use Rattle.abi_bits.specs.Pairs.{moved_pairs, IsPattern}
 use Rattle.abi_det.proofs.Moving.{moved_pattern}
 use Rattle.abi_det.proofs.spot.moved.Goals as goal

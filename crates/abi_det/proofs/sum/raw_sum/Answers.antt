@@ -1,8 +1,4 @@
-use Rattle.std.proofs.Common.{◌≡◌, rules, refl}
-use Rattle.abi_det.specs.FrameOf.{frame}
-use Rattle.abi_det.specs.Offers.{One}
-use Rattle.abi_det.specs.Written.{written_sum}
-use Rattle.abi_det.specs.declared.raw_layout.RawLayout.{RawLayout}
+use Rattle.std.proofs.Common.{rules, refl}
 use Rattle.abi_det.proofs.Unions.{sum_made, sum_lawful}
 use Rattle.abi_det.proofs.sum.raw_sum.Goals as goal
 

@@ -1,7 +1,6 @@
 use Rattle.std.proofs.Common.{◌≡◌, IsTrue, drop}
 use Rattle.abi_bits.specs.Pairs.{are_below, moved_pairs}
 use Rattle.abi_det.specs.Roles.{union_byte, lies_free}
-use Rattle.abi_det.specs.Written.{first_blocking}
 use Rattle.abi_det.proofs.spot.Spot.lies_free.Given as goal
 
 abbrev pub invariant-loop-offset : goal.invariant-loop-offset
