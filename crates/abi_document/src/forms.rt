@@ -90,7 +90,7 @@ fn is_name(text: &str) -> bool
 fn are_printable(text: &[u8]) -> bool
     ensures { result ≡ list_all (λ c. nat_le 32 c && nat_le c 126) text.now }
 {
-    text.iter().all(|byte| 32 <= *byte && *byte <= 126)
+    text.iter().all(|byte| b' ' <= *byte && *byte <= b'~')
 }
 
 /// A JSON integer of 64 bits without sign; `None` exactly where the tree is none.
@@ -104,10 +104,5 @@ pub fn long_of(json: &Json) -> Option<u64>
 pub fn word_of(json: &Json) -> Option<u32>
     ensures { result ≡ word_of (view json.now) }
 {
-    let number = long_of(json)?;
-    if number < 4294967296 {
-        Some(number as u32)
-    } else {
-        None
-    }
+    u32::try_from(long_of(json)?).ok()
 }

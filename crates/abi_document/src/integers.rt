@@ -68,7 +68,7 @@ fn is_plain(text: &str) -> bool
     ensures { result ≡ is_plain text.now }
 {
     match text.as_bytes() {
-        [first, rest @ ..] => 49 <= *first && *first <= 57 && all_digits(rest),
+        [first, rest @ ..] => b'1' <= *first && *first <= b'9' && all_digits(rest),
         [] => false,
     }
 }
