@@ -21,7 +21,6 @@ pub mod Telling
 pub mod Sides
 pub mod Lawful
 pub mod Planning
-pub mod Tagged
 pub mod Plans
 pub mod StructPlans
 pub mod SumPlans

@@ -18,7 +18,9 @@ use crate::form::{Form, IntForm, Width};
 use crate::image::Placed;
 use crate::part::{Part, PartField, PartFields, Sort, Spot};
 use abi_det::{Layout, Placement};
-use abi_layout::{Desc, DescError, Field, Prim, packed_sum, prim_layout, struct_layout, unit_layout};
+use abi_layout::{
+    Desc, DescError, Field, Prim, packed_sum, prim_layout, struct_layout, unit_layout,
+};
 use abi_num::{Items, OutOfMemory, Target};
 use std::alloc::Global;
 
@@ -172,7 +174,8 @@ fn struct_plan(
     ensures err { IfErr result (IsFault (struct_fault fields.next fields.layouts align)) }
 {
     let layout = struct_layout(alloc, fields.next, fields.layouts.as_slice(), align)?;
-    let free = fields.end.next_multiple_of(fields_align(fields.layouts.as_slice())) - fields.end;
+    let own_align = fields_align(fields.layouts.as_slice());
+    let free = fields.end.next_multiple_of(own_align) - fields.end;
     let tail = layout.size() - fields.end;
     Ok(PlannedPart {
         part: Part::Struct {
@@ -279,13 +282,7 @@ fn insert(sums: &mut Vec<Placed>, at: usize, placed: Placed) -> Result<(), OutOf
 }
 
 /// The part of a sum of two.
-fn sum_part(
-    alloc: Global,
-    sort: Sort,
-    ok: Part,
-    err: Part,
-    spot: Spot,
-) -> Result<Part, OutOfMemory>
+fn sum_part(alloc: Global, sort: Sort, ok: Part, err: Part, spot: Spot) -> Result<Part, OutOfMemory>
     ensures { IfOk result (λ part. shape part ≡ sum sort (shape ok) (shape err) spot) }
 {
     let ok = Box::new(alloc, ok)?;
