@@ -11,7 +11,7 @@ use Rattle.abi_pack.specs.Laws.{bit_of, Holds, IsFree, IsImageOf, flipped, Canon
 use Rattle.abi_pack.specs.Packed.{packed}
 use Rattle.abi_pack.specs.Plain.{Plain}
 use Rattle.abi_pack.specs.Shape.{Shape, size}
-use Rattle.abi_pack.specs.Shows.{Shows, fits, holds, IsCanonical}
+use Rattle.abi_pack.specs.Shows.{Shows, holds, IsCanonical}
 use Rattle.abi_pack.specs.Sound.{IsSound}
 use Rattle.abi_pack.proofs.Agreed.{agree, same_held}
 use Rattle.abi_pack.proofs.Canons.{packed_canonical, packed_length, packed_small}

@@ -1,20 +1,19 @@
 -- What the plan of a description keeps, and what the faults of a job are.
-use Rattle.std.proofs.Common.{◌≡◌, ℕ, ◌<◌, ◌≤◌, ◌^◌, Bool, true, false, List, Option, Some, None, refl, ap, ◌∙◌, sym, subst, arith}
+use Rattle.std.proofs.Common.{◌≡◌, ℕ, ◌≤◌, true, false, List, Some, None, refl, ◌∙◌, sym, arith}
 use Rattle.std.specs.Prelude.{Result, Ok, Err, IfErr, IsErrAnd}
 use Rattle.abi_num.specs.Target.{is_row}
 use Rattle.abi_num.specs.declared.target.Target.{Target}
 use Rattle.abi_det.specs.Frame.{Frame}
-use Rattle.abi_det.specs.Offers.{One, or_else}
+use Rattle.abi_det.specs.Offers.{One}
 use Rattle.abi_det.proofs.Lawful.{size_bound}
 use Rattle.abi_layout.specs.Faults.{IsFault, part_fault, desc_fault}
 use Rattle.abi_layout.specs.Frames.{written_frame}
-use Rattle.abi_layout.specs.Trees.{Tree, parts}
+use Rattle.abi_layout.specs.Trees.{Tree}
 use Rattle.abi_layout.specs.declared.desc_error.DescError.{DescError}
 use Rattle.abi_layout.specs.declared.desc_error.DescError.TheVariants as of_desc
 use Rattle.abi_layout.proofs.Faultless.{part_lawful}
-use Rattle.abi_layout.proofs.Steps.{then_parts}
 use Rattle.abi_pack.specs.Descriptions.{planned}
-use Rattle.abi_pack.specs.Jobs.{of_description, value_fault, job_fault, IsJobFault, image_of}
+use Rattle.abi_pack.specs.Jobs.{of_description, job_fault, IsJobFault, image_of}
 use Rattle.abi_pack.specs.Packed.{packed}
 use Rattle.abi_pack.specs.Plain.{Plain}
 use Rattle.abi_pack.specs.Planned.{IsPlanned}

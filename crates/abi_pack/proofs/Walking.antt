@@ -1,11 +1,10 @@
 -- Steps of the walk that plans a description.
-use Rattle.std.proofs.Common.{◌≡◌, ℕ, suc, zero, ◌+◌, ◌-◌, ◌<◌, ◌≤◌, List, [], ◌∷◌, ◌++◌, length, max, true, Option, None, refl, ap, ◌∙◌, sym, subst, arith, rules, append_assoc}
+use Rattle.std.proofs.Common.{◌≡◌, ℕ, ◌+◌, ◌-◌, ◌<◌, ◌≤◌, List, [], ◌∷◌, ◌++◌, length, max, Option, refl, ap, ◌∙◌, arith, rules, append_assoc}
 use Rattle.std.specs.Prelude.{insert, Result, Ok, Err, IfErr, IsErrAnd}
 use Rattle.std.proofs.lemmas.List.Edits.{insert-append_right}
-use Rattle.abi_num.specs.Target.{is_row}
 use Rattle.abi_num.specs.declared.target.Target.{Target}
 use Rattle.abi_det.specs.Frame.{Frame, IsLawful}
-use Rattle.abi_det.specs.Offers.{One, Rules}
+use Rattle.abi_det.specs.Offers.{One}
 use Rattle.abi_det.specs.Owed.{IsSound}
 use Rattle.abi_det.specs.Roles.{union_size}
 use Rattle.abi_det.specs.Written.{written_placement, written_sum}

@@ -1,12 +1,10 @@
-use Rattle.std.proofs.Common.{◌≡◌, ◌+◌, ◌<◌, ◌∷◌, ◌∙◌, [], refl, length, drop, sym, arith, rules}
+use Rattle.std.proofs.Common.{◌≡◌, ◌+◌, ◌∙◌, [], refl, length, drop, sym, arith, rules}
 use Rattle.std.proofs.lemmas.List.{drop_all}
 use Rattle.abi_det.specs.Offers.{One}
-use Rattle.abi_layout.specs.Faults.{part_fault, part_fault_in}
 use Rattle.abi_layout.specs.Frames.{written_frame, written_frames}
-use Rattle.abi_layout.specs.Trees.{Branches, field, branches, parts, tree}
+use Rattle.abi_layout.specs.Trees.{Branches, field, branches, tree}
 use Rattle.abi_layout.proofs.Views.{branches_at}
-use Rattle.abi_pack.specs.Descriptions.{planned_in}
-use Rattle.abi_pack.specs.Sums.{written_sums, written_sums_in}
+use Rattle.abi_pack.specs.Sums.{written_sums}
 use Rattle.abi_pack.proofs.Walking.{fronted_last, more_fields, more_frames, more_sums, some_part, result_sums, option_sums}
 use Rattle.abi_pack.proofs.planner.+planning.Goals as goal
 

@@ -1,4 +1,4 @@
-use Rattle.std.proofs.Common.{◌≡◌, ◌≤◌, ◌+◌, arith}
+use Rattle.std.proofs.Common.{arith}
 use Rattle.abi_det.specs.Offers.{One}
 use Rattle.abi_layout.specs.Faults.{sum_fault}
 use Rattle.abi_pack.proofs.Walking.{starts_inside, memory_fault}
