@@ -224,7 +224,7 @@ from_bytes es n m b le =
     same_bytes es (entries_below (mask_at es) n) m (entries_are_mask (mask_at es) n le (λ at. mask_at_lt es at m)) (λ at. whole es n at b ∙ sym (entries_at (mask_at es) n at))
 
 -- the offsets of a mask lie below the greatest size
-rising_below : (es : List Pair) (least : ℕ) → are_rising least es ≡ true → are_below 1048576 es ≡ true
+pub rising_below : (es : List Pair) (least : ℕ) → are_rising least es ≡ true → are_below 1048576 es ≡ true
 rising_below [] least r = refl
 rising_below (e ∷ es) least r =
     let p = rising_parts least e es r in

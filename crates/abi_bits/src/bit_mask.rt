@@ -114,8 +114,8 @@ impl BitMask {
         }
     }
 
-    /// The bits at each of the first `size` bytes, one byte each. Takes as long as the set has bytes, and
-    /// `size`.
+    /// The bits at each of the first `size` bytes, one byte each, in as many steps as the set has entries and
+    /// `size` tells.
     pub fn bytes(&self, alloc: Global, size: u64) -> Result<Items<u8>, OutOfMemory>
         ensures length { IfOk result (λ bytes. length bytes ≡ size) }
         ensures same { IfOk result (λ bytes. (at : ℕ) → at < size → slice_index bytes at ≡ mask_at self.now at) }

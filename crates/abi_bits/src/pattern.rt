@@ -72,7 +72,7 @@ impl Pattern {
 
     /// The pattern `by` bytes further on.
     #[tactic(auto, using(crate::proofs::Sets::moved_is_pattern))]
-    pub(crate) fn moved(&self, alloc: Global, by: u64) -> Result<Pattern, OutOfMemory>
+    pub fn moved(&self, alloc: Global, by: u64) -> Result<Pattern, OutOfMemory>
         requires { IsTrue (are_below 1048576 (moved_pairs by self.now)) }
         ensures { IfOk result (λ pattern. pattern ≡ moved_pairs by self.now) }
     {

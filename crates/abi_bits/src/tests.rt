@@ -104,6 +104,32 @@ fn masks_tell_their_bytes(rt: HostRuntime) -> Result<(), Fail> {
 }
 
 #[test]
+fn a_walk_passes_what_lies_before(rt: HostRuntime) -> Result<(), Fail> {
+    let mask = mask_of(rt.alloc(), &[(1, 255), (3, 1), (9, 6)])?;
+    let mut walk = mask.walk();
+    assert_eq!(rt; walk.next_entry(0), Some((1, 255)));
+    assert_eq!(rt; walk.next_entry(2), Some((3, 1)));
+    assert_eq!(rt; walk.byte_at(3), 1);
+    assert_eq!(rt; walk.byte_at(8), 0);
+    assert_eq!(rt; walk.next_entry(0), Some((9, 6)));
+    assert_eq!(rt; walk.next_entry(10), None);
+    assert_eq!(rt; mask.walk().byte_at(9), 6);
+    Ok(())
+}
+
+#[test]
+fn a_set_tells_its_first_bytes(rt: HostRuntime) -> Result<(), Fail> {
+    let alloc = rt.alloc();
+    let mask = mask_of(alloc, &[(1, 255), (3, 1), (9, 6)])?;
+    assert_eq!(rt;
+        mask.bytes(alloc, 5)?.as_slice(),
+        [0, 255, 0, 1, 0].as_slice()
+    );
+    assert!(rt; mask.bytes(alloc, 0)?.as_slice().is_empty());
+    Ok(())
+}
+
+#[test]
 fn bytes_are_added_past_the_last(rt: HostRuntime) -> Result<(), Fail> {
     let mut mask = mask_of(rt.alloc(), &[(1, 255)])?;
     mask.push_byte(9, 6)?;

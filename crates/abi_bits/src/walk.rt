@@ -6,8 +6,8 @@ ghost use Rattle.abi_bits.specs.Mask.{mask_at, IsMask, IsNext, SameFrom};
 
 use std::marker::Model;
 
-/// A walk over the bytes of a set of bits by rising offsets. It passes each byte once, so that a whole walk
-/// takes as long as the set has bytes and the walk is asked. Contracts see the part of the set that it has
+/// A walk over the bytes of a set of bits by rising offsets. It passes each entry once, so a whole walk takes
+/// as many steps as the set has entries and the walk is asked. Contracts see the part of the set that it has
 /// not passed.
 #[derive(Debug, Drop)]
 pub struct Walk<'a> {

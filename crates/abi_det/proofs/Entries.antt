@@ -4,27 +4,17 @@ use Rattle.std.proofs.lemmas.Bool.{eq-eqb, ne_eqb, lt-ltb, cases_lt, cases_eq}
 use Rattle.std.proofs.lemmas.List.Folds.{list_all-append}
 use Rattle.abi_bits.specs.Pairs.{Pair, are_below}
 use Rattle.abi_bits.specs.Mask.{entries_below, lowest, least_bit}
+use Rattle.abi_bits.proofs.Entries.{gap}
 use Rattle.abi_det.specs.Offers.{by_bit}
 use Rattle.abi_det.specs.Search.{IsNextBelow}
 use Rattle.abi_det.specs.declared.placements.Kind.TheVariants as kind
 use Rattle.abi_det.specs.declared.determinant.Test.TheVariants as test
 
--- bytes without a bit add no entry
-pub entries_gap : (bits : ℕ → ℕ) (from to : ℕ) → from ≤ to → ((at : ℕ) → from ≤ at → at < to → bits at ≡ 0) → entries_below bits to ≡ entries_below bits from
-unfolding entries_below
-entries_gap bits from zero le none = let same : from ≡ 0 = omega arith in rw same refl
-entries_gap bits from (suc to) le none = elim (cases_lt to from) [
-  | inl lt ↦ let same : from ≡ suc to = omega arith in rw same refl
-  | inr le ↦
-      let empty : eqb (bits to) 0 ≡ true = eq-eqb (bits to) 0 (none to le (omega arith)) in
-      rw (empty, append-nil) (entries_gap bits from to le (λ at g lt. none at g (omega arith)))
-]
-
 -- one byte more, past bytes without a bit
 pub entries_step : (bits : ℕ → ℕ) (from at m : ℕ) → from ≤ at → ((i : ℕ) → from ≤ i → i < at → bits i ≡ 0) → bits at ≡ m
     → entries_below bits (at + 1) ≡ entries_below bits from ++ cond (eqb m 0) [] ((at, m) ∷ [])
 unfolding entries_below
-entries_step bits from at m le none same = rw (add-one, same, entries_gap bits from at le none) refl
+entries_step bits from at m le none same = rw (add-one, same, gap bits from at le none) refl
 
 -- the entries of the first bytes come first
 entries_front : (bits : ℕ → ℕ) (m n : ℕ) → m ≤ n → (rest : List Pair) × (entries_below bits n ≡ entries_below bits m ++ rest)
@@ -62,7 +52,7 @@ least_of_first bits n at m next =
     rw (front.1, first, some, entries_none bits) refl
 
 pub least_of_none : (bits : ℕ → ℕ) (n : ℕ) → IsNextBelow bits n 0 None → least_bit (entries_below bits n) ≡ None
-least_of_none bits n next = rw (entries_gap bits 0 n (omega arith) next, entries_none bits) refl
+least_of_none bits n next = rw (gap bits 0 n (omega arith) next, entries_none bits) refl
 
 pub bit_found : (bits : ℕ → ℕ) (n at m low : ℕ) → IsNextBelow bits n 0 (Some (at, m)) → low ≡ lowest m
     → Some (record { kind = kind.SharedBit; test = test.BitIsErr at low }) ≡ by_bit (least_bit (entries_below bits n))

@@ -3,11 +3,12 @@ use Rattle.std.proofs.Common.{◌≡◌, ℕ, ◌+◌, ◌≤◌, true, false, c
 use Rattle.std.proofs.lemmas.Bool.{ne_eqb, cases_eq}
 use Rattle.abi_bits.specs.Pairs.{Pair, are_below}
 use Rattle.abi_bits.specs.Mask.{entries_below}
+use Rattle.abi_bits.proofs.Entries.{gap}
 use Rattle.abi_det.specs.Search.{IsNextBelow, IsSpared}
 use Rattle.abi_det.specs.Written.{without, beside_tag}
 use Rattle.abi_det.specs.declared.determinant.Test.{Test}
 use Rattle.abi_det.specs.declared.determinant.Test.TheVariants as test
-use Rattle.abi_det.proofs.Entries.{entries_gap, entries_step, entries_lie}
+use Rattle.abi_det.proofs.Entries.{entries_step, entries_lie}
 
 pub nothing_below : (bits : ℕ → ℕ) → [] ≡ entries_below bits 0
 unfolding entries_below
@@ -40,7 +41,7 @@ room_for_next t bits from at old le before = rw before (entries_lie (without t b
 pub all_exported : (t : Test) (bits : ℕ → ℕ) (size from : ℕ) (mask : List Pair) → IsSpared bits t → IsNextBelow bits size from None → from ≤ size
     → mask ≡ entries_below (without t bits) from → mask ≡ entries_below (without t bits) size
 all_exported t bits size from mask spared next le before =
-    before ∙ sym (entries_gap (without t bits) from size le (λ i g lt. without_none t bits i spared (next i g lt)))
+    before ∙ sym (gap (without t bits) from size le (λ i g lt. without_none t bits i spared (next i g lt)))
 
 pub room_beside_tag : (at : ℕ) (old : List Pair) → old ≡ entries_below beside_tag at → are_below at old ≡ true
 room_beside_tag at old before = rw before (entries_lie beside_tag at at (omega arith))

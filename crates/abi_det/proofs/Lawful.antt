@@ -26,7 +26,7 @@ parts f h =
     let d = and_parts (is_alignment f.align) (leb f.size 1048576) c.0 in
     record { align = d.0; size = leb-true f.size 1048576 d.1; multiple = eqb-true (f.size % f.align) 0 c.1; free = b.1; solid = a.1 }
 
-positive : (n : ℕ) → is_power_of_two n ≡ true → 0 < n
+pub positive : (n : ℕ) → is_power_of_two n ≡ true → 0 < n
 positive n p = let one = eqb-true (count_ones n) 1 p in omega (arith, one, ones_le_self n)
 
 pub size_bound : (f : Frame) → IsLawful f → f.size ≤ 1048576

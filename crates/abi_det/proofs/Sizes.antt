@@ -3,7 +3,7 @@ use lib.Count.{ones_step}
 use Rattle.std.proofs.Common.{◌≡◌, ℕ, zero, suc, ◌+◌, ◌-◌, ◌*◌, ◌/◌, ◌%◌, ◌^◌, ◌<◌, ◌≤◌, max, true, ◌&&◌, eqb, leb, refl, sym, ◌∙◌, inl, inr, arith}
 use Rattle.std.specs.Int.{is_power_of_two, next_multiple_of}
 use Rattle.std.specs.Int.RustNames.{count_ones}
-use Rattle.std.proofs.lemmas.Nat.{zero_from_ones, ones_le_self, pow_below, pow_pos, pow-add}
+use Rattle.std.proofs.lemmas.Nat.{zero_from_ones, ones_le_self, pow_below, pow-add}
 use Rattle.std.proofs.lemmas.Bool.{and_parts, and_from, leb-true, le-leb, eqb-true, eq-eqb, cases_lt, cases_eq}
 use Rattle.std.proofs.Math.Nat.{add-zero, add-mod_right, div-add-mod, mul-le-mul_right, mod-lt, mod_self, mod-eq_of_lt, mul-mod_right, pow-suc, suc-mul, mul_comm}
 use Rattle.abi_num.specs.Alignment.{is_alignment, IsAlignment}
@@ -13,7 +13,7 @@ use Rattle.abi_bits.specs.Forbidden.{is_solid_item}
 use Rattle.abi_det.specs.Frame.{Frame, IsLawful}
 use Rattle.abi_det.specs.Roles.{sum_align, union_size}
 use Rattle.abi_det.specs.Laws.{UnionLaw, RoundLaw}
-use Rattle.abi_det.proofs.Lawful.{parts}
+use Rattle.abi_det.proofs.Lawful.{parts, positive}
 
 one_bit : (d n : ℕ) → n ≤ d → count_ones n ≡ 1 → (k : ℕ) × (n ≡ 2 ^ k)
 one_bit zero n h e = absurd (omega (arith, ones_le_self n))
@@ -46,7 +46,7 @@ pub alignment_parts : (n : ℕ) → IsAlignment n → (n ≤ 65536) × (is_power
 alignment_parts n a = let p = and_parts (leb n 65536) (is_power_of_two n) a in (leb-true n 65536 p.0, p.1)
 
 pub alignment_positive : (n : ℕ) → IsAlignment n → 0 < n
-alignment_positive n a = let k = power_of_two n (alignment_parts n a).1 in omega (arith, k.1, pow_pos k.0)
+alignment_positive n a = positive n (alignment_parts n a).1
 
 -- the larger of two alignments is one
 pub alignment_max : (a b : ℕ) → IsAlignment a → IsAlignment b → IsAlignment (max a b)

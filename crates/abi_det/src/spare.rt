@@ -82,6 +82,7 @@ impl<'a> Roles<'a> {
         }
     }
 
+    /// The same where the smaller variant is not empty. Each turn but the last two passes an entry.
     fn next_shared(&self, shift: u64, own: &mut OwnBits<'_>, from: u64) -> Option<(u64, u8)>
         requires some { 0 < self.now.small.now.size }
         requires left { AreLeft self.now.large.now self.now.small.now shift own.old from }

@@ -81,7 +81,7 @@ impl Spot<'_> {
     {
         for pattern in patterns {
             if self.lies_free(pattern.pairs(), by) {
-                let pattern = moved(alloc, pattern, by)?;
+                let pattern = pattern.moved(alloc, by)?;
                 return Ok(Some(pattern));
             }
         }
@@ -206,27 +206,4 @@ fn is_moved_to(offset: u64, by: u64, at: u64) -> bool
     ensures { result ≡ (offset + by == at) }
 {
     if by <= at { offset == at - by } else { false }
-}
-
-/// The pattern, moved by that many bytes.
-fn moved(alloc: Global, pattern: &Pattern, by: u64) -> Result<Pattern, OutOfMemory>
-    requires { IsTrue (are_below 1048576 (moved_pairs by pattern.now)) }
-    ensures { IfOk result (λ moved. moved ≡ moved_pairs by pattern.now) }
-{
-    let pairs = moved_pairs(alloc, pattern.pairs(), by)?;
-    match Pattern::new(alloc, pairs.as_slice())? {
-        Some(pattern) => Ok(pattern),
-        None => unreachable!(),
-    }
-}
-
-fn moved_pairs(alloc: Global, pairs: &[(u64, u8)], by: u64) -> Result<Items<(u64, u8)>, OutOfMemory>
-    requires { IsTrue (are_below 1048576 (moved_pairs by pairs.now)) }
-    ensures { IfOk result (λ moved. moved ≡ moved_pairs by pairs.now) }
-{
-    let mut moved = Items::new(alloc);
-    for (offset, byte) in pairs {
-        moved.push((*offset + by, *byte))?;
-    }
-    Ok(moved)
 }
