@@ -7,7 +7,8 @@ use Rattle.abi_bits.specs.Mask.{mask_at, IsNext, SameFrom}
 use Rattle.abi_bits.proofs.Entries.{zero_past}
 use Rattle.abi_det.specs.Frame.{Frame, IsLawful}
 use Rattle.abi_det.specs.Roles.{union_byte, spare_byte}
-use Rattle.abi_det.specs.Search.{IsNextBelow}
+use Rattle.abi_det.specs.Search.{IsNextBelow, AreLeft}
+use Rattle.abi_det.specs.declared.spare.OwnBits.{OwnBits}
 use Rattle.abi_det.proofs.Lawful.{parts}
 
 union_before : (f : Frame) (shift size at : ℕ) → at < shift → at < size → union_byte f shift size at ≡ 255
@@ -158,14 +159,15 @@ spare_own : (large small : Frame) (shift size at : ℕ) → small.size ≡ 0 →
 spare_own large small shift size at none = let empty : eqb small.size 0 ≡ true = eq-eqb small.size 0 none in rw empty refl
 
 -- of an empty smaller variant the larger's own bits count
-pub next_empty : (large small : Frame) (shift size from : ℕ) (found : Option Pair) → IsLawful large → large.size ≤ size → small.size ≡ 0
-    → IsNext large.free from found → IsNextBelow (spare_byte large small shift size) size from found
-next_empty large small shift size from None h le none next = λ at g lt. spare_own large small shift size at none ∙ next at g
-next_empty large small shift size from (Some e) h le none next =
-    let own = own_byte large e.0 e.1 h next.2 next.1 in (
-      next.0,
-      omega (arith, own, le),
-      next.1,
-      spare_own large small shift size e.0 none ∙ next.2,
-      λ at g lt. spare_own large small shift size at none ∙ next.3 at g lt,
+pub next_empty : (large small : Frame) (own : OwnBits) (shift size from : ℕ) (found : Option Pair) → IsLawful large → large.size ≤ size → small.size ≡ 0
+    → AreLeft large small shift own from → IsNext own.large from found → IsNextBelow (spare_byte large small shift size) size from found
+next_empty large small own shift size from None h le none left next = λ at g lt. spare_own large small shift size at none ∙ next_left large.free own.large from None left.0 next at g
+next_empty large small own shift size from (Some e) h le none left next =
+    let whole = next_left large.free own.large from (Some e) left.0 next in
+    let inside = left_in large own.large from e.0 e.1 h left.0 next in (
+      whole.0,
+      omega (arith, inside, le),
+      whole.1,
+      spare_own large small shift size e.0 none ∙ whole.2,
+      λ at g lt. spare_own large small shift size at none ∙ whole.3 at g lt,
     )

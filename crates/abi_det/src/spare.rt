@@ -65,6 +65,7 @@ impl<'a> Roles<'a> {
     /// The first byte of the union, at the offset `from` or past it, in which both variants leave bits free,
     /// and these bits. An empty smaller variant leaves all to the larger's own. A whole walk takes as long as
     /// both masks and the answers have bytes.
+    #[tactic(auto, using(crate::proofs::Next::next_empty))]
     pub(crate) fn next_spare(
         &self,
         shift: u64,

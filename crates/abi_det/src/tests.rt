@@ -265,7 +265,29 @@ const TAGGED_BYTES: Side = Side {
     forbids: Forbids::Nothing,
 };
 
-static ROWS: [Row; 13] = [
+/// Fifteen bytes, of which the one at offset 7 has a free bit.
+const LONG: Side = Side {
+    size: 15,
+    align: 1,
+    free: &[(7, 1)],
+    forbids: Forbids::Nothing,
+};
+
+/// Eight bytes, of which the last has another free bit.
+const SHORT: Side = Side {
+    size: 8,
+    align: 1,
+    free: &[(7, 2)],
+    forbids: Forbids::Nothing,
+};
+
+static ROWS: [Row; 14] = [
+    // at place k the smaller variant covers the bytes from k to k + 7, and so the larger's one free bit each time
+    Row {
+        ok: LONG,
+        err: SHORT,
+        told: "size 16 place 0 front 1 ok 0 err 0 tag means err free 0:254; refusal 0 smaller larger; refusal 1 smaller larger; refusal 2 smaller larger; refusal 3 smaller larger; refusal 4 smaller larger; refusal 5 smaller larger; refusal 6 smaller larger; refusal 7 smaller larger",
+    },
     Row {
         ok: BYTE,
         err: BYTE,
