@@ -63,8 +63,8 @@ impl<'a> Roles<'a> {
     }
 
     /// The first byte of the union, at the offset `from` or past it, in which both variants leave bits free,
-    /// and these bits. An empty smaller variant leaves all to the larger's own. A whole walk takes as long as
-    /// both masks and the answers have bytes.
+    /// and these bits. An empty smaller variant leaves all to the larger's own. All answers in turn take as many
+    /// steps as both masks have entries and there are answers.
     #[tactic(auto, using(crate::proofs::Next::next_empty))]
     pub(crate) fn next_spare(
         &self,
@@ -83,7 +83,8 @@ impl<'a> Roles<'a> {
         }
     }
 
-    /// The same where the smaller variant is not empty. Each turn but the last two passes an entry.
+    /// The same where the smaller variant is not empty. Each turn but the last two passes an entry of the
+    /// larger's mask.
     fn next_shared(&self, shift: u64, own: &mut OwnBits<'_>, from: u64) -> Option<(u64, u8)>
         requires some { 0 < self.now.small.now.size }
         requires left { AreLeft self.now.large.now self.now.small.now shift own.old from }
