@@ -93,46 +93,29 @@ fn variant_of(alloc: Global, levels: usize, json: &Json) -> Result<Option<Value>
     ensures { IfOk result (λ value. option_map plain value ≡ variant_of (value_at levels) (view json.now)) }
 {
     if let Some(payload) = only("ok", json) {
-        return ok_of(alloc, value_at(alloc, levels, payload)?);
+        let payload = boxed(alloc, value_at(alloc, levels, payload)?)?;
+        return Ok(payload.map(Value::Ok));
     }
     if let Some(payload) = only("err", json) {
-        return err_of(alloc, value_at(alloc, levels, payload)?);
+        let payload = boxed(alloc, value_at(alloc, levels, payload)?)?;
+        return Ok(payload.map(Value::Err));
     }
     match only("some", json) {
-        Some(payload) => some_of(alloc, value_at(alloc, levels, payload)?),
+        Some(payload) => {
+            let payload = boxed(alloc, value_at(alloc, levels, payload)?)?;
+            Ok(payload.map(Value::Some))
+        }
         None => Ok(None),
     }
 }
 
 /// The variant `Ok` of a payload, if there is one.
-fn ok_of(alloc: Global, payload: Option<Value>) -> Result<Option<Value>, OutOfMemory>
-    ensures { IfOk result (λ value. option_map plain value ≡ option_map (variant sort.OfResult true) (option_map plain payload)) }
+/// The payload of a variant in a box of its own.
+fn boxed(alloc: Global, payload: Option<Value>) -> Result<Option<Box<Value>>, OutOfMemory>
+    ensures { IfOk result (λ held. option_map (λ b. plain b.value) held ≡ option_map plain payload) }
 {
-    let Some(payload) = payload else {
-        return Ok(None);
-    };
-    let payload = Box::new(alloc, payload)?;
-    Ok(Some(Value::Ok(payload)))
-}
-
-/// The variant `Err` of a payload, if there is one.
-fn err_of(alloc: Global, payload: Option<Value>) -> Result<Option<Value>, OutOfMemory>
-    ensures { IfOk result (λ value. option_map plain value ≡ option_map (variant sort.OfResult false) (option_map plain payload)) }
-{
-    let Some(payload) = payload else {
-        return Ok(None);
-    };
-    let payload = Box::new(alloc, payload)?;
-    Ok(Some(Value::Err(payload)))
-}
-
-/// The variant `Some` of a payload, if there is one.
-fn some_of(alloc: Global, payload: Option<Value>) -> Result<Option<Value>, OutOfMemory>
-    ensures { IfOk result (λ value. option_map plain value ≡ option_map (variant sort.OfOption true) (option_map plain payload)) }
-{
-    let Some(payload) = payload else {
-        return Ok(None);
-    };
-    let payload = Box::new(alloc, payload)?;
-    Ok(Some(Value::Some(payload)))
+    match payload {
+        Some(payload) => Ok(Some(Box::new(alloc, payload)?)),
+        None => Ok(None),
+    }
 }
