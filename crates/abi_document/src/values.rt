@@ -109,7 +109,6 @@ fn variant_of(alloc: Global, levels: usize, json: &Json) -> Result<Option<Value>
     }
 }
 
-/// The variant `Ok` of a payload, if there is one.
 /// The payload of a variant in a box of its own.
 fn boxed(alloc: Global, payload: Option<Value>) -> Result<Option<Box<Value>>, OutOfMemory>
     ensures { IfOk result (λ held. option_map (λ b. plain b.value) held ≡ option_map plain payload) }

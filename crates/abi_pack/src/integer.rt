@@ -108,7 +108,6 @@ fn write_low_first(number: u128, out: &mut [u8])
 }
 
 /// The number that stands in the bytes.
-
 pub(crate) fn number_in(bytes: &[u8], little: bool) -> u128
     requires { length bytes.now ≤ 16 }
     ensures { result ≡ low_worth (ordered little bytes.now) }
