@@ -7,17 +7,19 @@ use Rattle.std.proofs.lemmas.Nat.{pow_below, xor_lt}
 use Rattle.std.proofs.lemmas.Nat.Bits.{bit_at-lt, bit_at_xor, bit_at-pow_same, bit_at-pow_other}
 use Rattle.abi_pack.specs.Agree.{Agree}
 use Rattle.abi_pack.specs.Image.{Image, AreBytes, bytes_of}
-use Rattle.abi_pack.specs.Laws.{bit_of, Holds, IsFree, IsImageOf, flipped, CanonicalLaw, UniqueLaw, FitLaw, HeldLaw, FlipLaw, FreeLaw, ChangeLaw, ItemLaw, PackedLaw, PackedCanonicalLaw}
+use Rattle.abi_pack.specs.Laws.{bit_of, Holds, IsFree, IsImageOf, flipped, CanonicalLaw, UniqueLaw, FitLaw, HeldLaw, FlipLaw, FreeLaw, ChangeLaw, ItemLaw, PackedLaw, PackedCanonicalLaw, BackLaw}
 use Rattle.abi_pack.specs.Packed.{packed}
 use Rattle.abi_pack.specs.Plain.{Plain}
 use Rattle.abi_pack.specs.Shape.{Shape, size}
 use Rattle.abi_pack.specs.Shows.{Shows, holds, IsCanonical}
 use Rattle.abi_pack.specs.Sound.{IsSound}
+use Rattle.abi_pack.specs.Told.{told}
 use Rattle.abi_pack.proofs.Agreed.{agree, same_held}
 use Rattle.abi_pack.proofs.Canons.{packed_canonical, packed_length, packed_small}
 use Rattle.abi_pack.proofs.Choice.{two_truths}
 use Rattle.abi_pack.proofs.Free.{free_not_held}
 use Rattle.abi_pack.proofs.Legal.{no_item}
+use Rattle.abi_pack.proofs.Telling.{shown_value, shown_where}
 use Rattle.abi_pack.proofs.Truths.{same_byte}
 use Rattle.abi_pack.proofs.Unique.{unique, shown_fits}
 
@@ -140,3 +142,12 @@ flip_free s v f n sound bytes low shown (inr none) lost =
 pub flip_law : FlipLaw
 flip_law s v f n sound bytes low shown =
     (λ held after. flip_held s v f n sound low shown held after, λ lost. flip_free s v f n sound bytes low shown (two_truths (holds s v (n / 8) (n % 8))) lost)
+
+pub back_law : BackLaw
+back_law s v sound fit =
+    let f : Image = bytes_of (packed s v) in
+    let shows : Shows s v f = (packed_canonical s v sound fit).shows in
+    let shown = shown_where s v f shows in (
+      shown,
+      unique s (told s f) v f (shown_value s f (packed_small s v sound fit) shown) shows,
+    )

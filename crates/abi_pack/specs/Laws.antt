@@ -9,6 +9,7 @@ use Rattle.abi_pack.specs.Plain.{Plain}
 use Rattle.abi_pack.specs.Shape.{Shape, size, is_free, items}
 use Rattle.abi_pack.specs.Shows.{Shows, fits, holds, IsCanonical}
 use Rattle.abi_pack.specs.Sound.{IsSound}
+use Rattle.abi_pack.specs.Told.{is_shown, told}
 
 abbrev pub bit_of : Image → ℕ → ℕ
 bit_of f n = bit_at (f (n / 8)) (n % 8)
@@ -76,3 +77,7 @@ PackedLaw = (s : Shape) (v w : Plain) (bs cs : List ℕ) → IsSound s → IsIma
 -- the bytes that packing computes are the value's canonical ones
 abbrev pub PackedCanonicalLaw : Type 0
 PackedCanonicalLaw = (s : Shape) (v : Plain) → IsSound s → fits s v ≡ true → IsImageOf s v (packed s v)
+
+-- packed bytes show a value, and the one that reading computes is the value that was packed
+abbrev pub BackLaw : Type 0
+BackLaw = (s : Shape) (v : Plain) → IsSound s → fits s v ≡ true → (is_shown s (bytes_of (packed s v)) ≡ true) × (told s (bytes_of (packed s v)) ≡ v)

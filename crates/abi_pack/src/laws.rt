@@ -1,7 +1,7 @@
 //! What holds of packed bytes, whatever the plan: each function's clause is a law.
 
 ghost use Rattle.abi_pack.specs.PlanLaws.{PlanLaw};
-ghost use Rattle.abi_pack.specs.Laws.{CanonicalLaw, UniqueLaw, FitLaw, HeldLaw, FlipLaw, FreeLaw, ChangeLaw, ItemLaw, PackedLaw, PackedCanonicalLaw};
+ghost use Rattle.abi_pack.specs.Laws.{CanonicalLaw, UniqueLaw, FitLaw, HeldLaw, FlipLaw, FreeLaw, ChangeLaw, ItemLaw, PackedLaw, PackedCanonicalLaw, BackLaw};
 
 /// Every value that fits has exactly one canonical byte string.
 #[tactic(auto, using(crate::proofs::Lawful::canonical_law))]
@@ -60,6 +60,11 @@ pub fn equal_bytes_equal_values()
 /// The bytes that packing computes are the value's canonical ones.
 pub fn packing_is_canonical()
     ensures { PackedCanonicalLaw }
+{}
+
+/// Reading what was packed gives the value back.
+pub fn packed_value_is_read_back()
+    ensures { BackLaw }
 {}
 
 /// The plan of a description without a fault has the size, the free bits and the forbidden items of its
