@@ -15,8 +15,7 @@ use Rattle.abi_pack.specs.Jobs.{job_fault, image_of}
 use Rattle.abi_pack.specs.Packed.{packed}
 use Rattle.abi_pack.specs.Plain.{Plain}
 use Rattle.abi_pack.specs.PlanLaws.{IsPlanFor}
-use Rattle.abi_pack.specs.Shows.{Shows, fits}
-use Rattle.abi_pack.specs.Sound.{IsSound}
+use Rattle.abi_pack.specs.Shows.{Shows}
 use Rattle.abi_pack.specs.declared.abi_error.AbiError.{AbiError}
 use Rattle.abi_pack.proofs.Lawful.{unique_law, change_law, item_law, packed_image}
 use Rattle.abi_pack.proofs.Plans.{faultless_planned}
