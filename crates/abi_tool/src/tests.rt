@@ -7,6 +7,10 @@ use std::test::Fail;
 
 const ROOM: usize = 256;
 
+// A document whose job can be done.
+const NONE_OF_BOOL: &[u8] =
+    b"{\"target\":\"le64\",\"desc\":{\"option\":\"bool\"},\"value\":\"none\"}";
+
 // The status of the program with these words.
 fn run(
     alloc: Global,
@@ -36,7 +40,14 @@ pub fn is_reply(
 
 #[test]
 fn unlisted_words_do_nothing(rt: HostRuntime) -> Result<(), Fail> {
-    let lists: [&[&str]; 5] = [&[], &[""], &["Pack"], &["pack "], &["pack", "pack"]];
+    let lists: [&[&str]; 6] = [
+        &[],
+        &[""],
+        &["pak"],
+        &["Pack"],
+        &["pack "],
+        &["pack", "pack"],
+    ];
     for words in lists {
         let mut source = MemSource::new(b"{}", &[0]);
         let mut sink = MemSink::new(rt.alloc(), ROOM, &[0])?;
@@ -52,9 +63,10 @@ fn unlisted_words_do_nothing(rt: HostRuntime) -> Result<(), Fail> {
 
 #[test]
 fn bytes_that_are_no_json(rt: HostRuntime) -> Result<(), Fail> {
-    let documents: [&[u8]; 10] = [
+    let documents: [&[u8]; 11] = [
         b"",
         b" \n",
+        b"{\"target\"",
         b"{\"target\":\"le64\"",
         b"{\"a\":1}x",
         b"{\"a\":1}{\"a\":1}",
@@ -117,8 +129,14 @@ fn a_document_has_at_most_4194304_bytes(rt: HostRuntime) -> Result<(), Fail> {
 #[test]
 fn a_source_that_fails_is_told_first(rt: HostRuntime) -> Result<(), Fail> {
     // The first read gets all of `{}`, and the second finds the end.
-    for (fails, status, text) in [([0], 2, ""), ([1], 2, ""), ([2], 6, "not a job\n")] {
-        let mut source = MemSource::new(b"{}", &fails);
+    let empty: &[u8] = b"{}";
+    for (document, fails, status, text) in [
+        (NONE_OF_BOOL, [0], 2, ""),
+        (empty, [0], 2, ""),
+        (empty, [1], 2, ""),
+        (empty, [2], 6, "not a job\n"),
+    ] {
+        let mut source = MemSource::new(document, &fails);
         let mut sink = MemSink::new(rt.alloc(), ROOM, &[])?;
         assert_eq!(rt; run(rt.alloc(), &["pack"], &mut source, &mut sink)?, status);
         assert!(rt; sink.got() == text.as_bytes());
@@ -129,14 +147,17 @@ fn a_source_that_fails_is_told_first(rt: HostRuntime) -> Result<(), Fail> {
 #[test]
 fn a_sink_that_fails_has_a_beginning_of_the_text(rt: HostRuntime) -> Result<(), Fail> {
     // The text has 10 bytes, and goes in one write where it fits.
-    for (room, fails, status, text) in [
-        (ROOM, [0], 3, ""),
-        (ROOM, [1], 6, "not a job\n"),
-        (0, [9], 3, ""),
-        (4, [9], 3, "not "),
-        (10, [9], 6, "not a job\n"),
+    let empty: &[u8] = b"{}";
+    for (document, room, fails, status, text) in [
+        (NONE_OF_BOOL, ROOM, [0], 3, ""),
+        (NONE_OF_BOOL, 6, [9], 3, "size 1"),
+        (empty, ROOM, [0], 3, ""),
+        (empty, ROOM, [1], 6, "not a job\n"),
+        (empty, 0, [9], 3, ""),
+        (empty, 4, [9], 3, "not "),
+        (empty, 10, [9], 6, "not a job\n"),
     ] {
-        let mut source = MemSource::new(b"{}", &[]);
+        let mut source = MemSource::new(document, &[]);
         let mut sink = MemSink::new(rt.alloc(), room, &fails)?;
         assert_eq!(rt; run(rt.alloc(), &["pack"], &mut source, &mut sink)?, status);
         assert!(rt; sink.got() == text.as_bytes());
