@@ -146,7 +146,7 @@ fn a_source_that_fails_is_told_first(rt: HostRuntime) -> Result<(), Fail> {
 
 #[test]
 fn a_sink_that_fails_has_a_beginning_of_the_text(rt: HostRuntime) -> Result<(), Fail> {
-    // The text has 10 bytes, and goes in one write where it fits.
+    // The line that answers `{}` has 10 bytes. A text goes in one write where it fits.
     let empty: &[u8] = b"{}";
     for (document, room, fails, status, text) in [
         (NONE_OF_BOOL, ROOM, [0], 3, ""),
