@@ -48,6 +48,12 @@ pub or_offered : (self : ForbiddenValues) (left right : Box ForbiddenValues Glob
     → middle ≡ start ++ offered (items left.value) → end ≡ middle ++ offered (items right.value) → end ≡ start ++ offered (items self)
 or_offered self left right start middle end is m e = rw (is, items_or) (offered_or (items left.value) (items right.value) start middle end m e)
 
+-- what holds of every pattern that either side offers holds of every one of the whole
+pub or_all : (p : List Pair → Bool) (self : ForbiddenValues) (left right : Box ForbiddenValues Global) → self ≡ Or left right
+    → list_all p (offered (items left.value)) ≡ true → list_all p (offered (items right.value)) ≡ true → list_all p (offered (items self)) ≡ true
+or_all p self left right is a b =
+    rw (is, items_or, map-append, list_all-append) (and_from (list_all p (offered (items left.value))) (list_all p (offered (items right.value))) a b)
+
 ends_or : (left right : Box ForbiddenValues Global) → ends_in_pattern (Or left right) ≡ ends_in_pattern right.value
 ends_or left right = search (rules, the_lemmas)
 

@@ -1,15 +1,13 @@
 -- The least bit of a mask, and the mask without it.
-use Rattle.std.proofs.Common.{◌≡◌, ◌↔◌, ℕ, ◌+◌, ◌*◌, ◌/◌, ◌%◌, ◌^◌, ◌<◌, Bool, true, false, List, [], ◌∷◌, ◌++◌, Option, Some, None, cond, eqb, leb, ltb, bit_or, bit_xor, refl, sym, ap, ◌∙◌, inl, inr, arith}
+use Rattle.std.proofs.Common.{◌≡◌, ◌↔◌, ℕ, ◌+◌, ◌*◌, ◌/◌, ◌%◌, ◌^◌, ◌<◌, true, false, List, [], ◌∷◌, Option, Some, None, cond, eqb, bit_xor, refl, sym, ap, ◌∙◌, inl, inr, arith}
 use Rattle.std.specs.Option.{option_map}
 use Rattle.std.specs.Int.{bit_at, trailing_zeros, w8}
-use Rattle.std.proofs.lemmas.Nat.{xor_lt, pow_below, one_shl}
+use Rattle.std.proofs.lemmas.Nat.{pow_below, one_shl}
 use Rattle.std.proofs.lemmas.Nat.Bits.{bit_at_xor, bit_at-zero, bit_at-lt, bit_at-trailing_zeros, bit_at-pow_same, bit_at-pow_other, same_from_bits}
-use Rattle.std.proofs.lemmas.Bool.{and_from, ne_eqb, eq-eqb, eqb-false, lt-ltb, le-leb, cases_lt, cases_eq, cases_order}
-use Rattle.abi_bits.specs.Pairs.{Pair, are_rising}
-use Rattle.abi_bits.specs.Mask.{mask_at, Has, IsMask, have_bits, lowest, least_bit, bit_byte, without_least, IsLeast}
-use Rattle.abi_bits.proofs.Masks.{or_zero, rising_parts, rising_here, zero_before, first, mask_parts, bits_parts}
-use Rattle.abi_bits.proofs.Entries.{byte_list, byte_list_at, mask_append, positive}
-use Rattle.abi_bits.proofs.Sets.{rising_lower}
+use Rattle.std.proofs.lemmas.Bool.{ne_eqb, eq-eqb, cases_lt, cases_eq, cases_order}
+use Rattle.abi_bits.specs.Pairs.{Pair}
+use Rattle.abi_bits.specs.Mask.{mask_at, Has, IsMask, lowest, least_bit, bit_byte, IsLeast}
+use Rattle.abi_bits.proofs.Masks.{rising_here, zero_before, first, mask_parts, bits_parts}
 
 xor_zero : (a : ℕ) → bit_xor a 0 ≡ a
 xor_zero a = same_from_bits _ _ (λ i. let x = bit_at-lt a i in simp (bit_at_xor, bit_at-zero) (omega (arith, x)))
@@ -24,46 +22,32 @@ lowest_shift m pos lt = one_shl (trailing_zeros w8 m) 8 (low_bit m pos lt).0
 lowest_lt : (m : ℕ) → 0 < m → m < 256 → lowest m < 2 ^ 8
 lowest_lt m pos lt = pow_below (trailing_zeros w8 m) 8 (low_bit m pos lt).0
 
-rest_mask_by : (b : Bool) (e : Pair) (es : List Pair) (x : ℕ) → eqb x 0 ≡ b → x < 256 → are_rising 0 (e ∷ es) ≡ true → have_bits (e ∷ es) ≡ true
-    → IsMask (cond b [] ((e.0, x) ∷ []) ++ es)
-rest_mask_by true e es x q lt r h =
-    and_from (are_rising 0 es) (have_bits es) (rising_lower es (e.0 + 1) 0 (omega arith) (rising_parts 0 e es r).2) (bits_parts e es h).2
-rest_mask_by false e es x q lt r h =
-    let p = rising_parts 0 e es r in
-    let a : ltb e.0 1048576 ≡ true = lt-ltb e.0 1048576 p.1 in
-    let b : are_rising (e.0 + 1) es ≡ true = p.2 in
-    let z : leb 0 e.0 ≡ true = le-leb 0 e.0 (omega arith) in
-    let c : ltb 0 x ≡ true = lt-ltb 0 x (positive x (eqb-false x 0 q)) in
-    let d : ltb x 256 ≡ true = lt-ltb x 256 lt in
-    and_from (are_rising 0 ((e.0, x) ∷ es)) (have_bits ((e.0, x) ∷ es)) (rw (z, a, b) refl) (rw (c, d, (bits_parts e es h).2) refl)
+pub xor_none : (a b : ℕ) → a ≡ 0 → b ≡ 0 → bit_xor a b ≡ 0
+xor_none a b p q = rw (p, q) refl
 
-rest_mask : (es : List Pair) → IsMask es → IsMask (without_least es)
-rest_mask [] m = m
-rest_mask (e ∷ es) m =
+-- the first byte with a bit has the least one
+pub least_by_bytes : (es : List Pair) (at : ℕ) → IsMask es → 0 < mask_at es at → ((k : ℕ) → k < at → mask_at es k ≡ 0) → least_bit es ≡ Some (at, lowest (mask_at es at))
+least_by_bytes [] at m some none = absurd (omega (arith, some))
+least_by_bytes (e ∷ es) at m some none =
     let p = mask_parts (e ∷ es) m in
-    let b = bits_parts e es p.1 in
-    rest_mask_by (eqb (bit_xor e.1 (lowest e.1)) 0) e es (bit_xor e.1 (lowest e.1)) refl (xor_lt 8 e.1 (lowest e.1) b.1 (lowest_lt e.1 b.0 b.1)) p.0 p.1
-
-pub rest_is_mask : (es out : List Pair) → IsMask es → out ≡ without_least es → IsMask out
-rest_is_mask es out m q = rw q (rest_mask es m)
-
-rest_at : (es : List Pair) (at : ℕ) → IsMask es → mask_at (without_least es) at ≡ bit_xor (mask_at es at) (bit_byte (least_bit es) at)
-rest_at [] at m = refl
-rest_at (e ∷ es) at m =
-    let p = mask_parts (e ∷ es) m in
-    let x = bit_xor e.1 (lowest e.1) in
-    mask_append (byte_list e.0 x) es at ∙ ap (λ y. bit_or y (mask_at es at)) (byte_list_at e.0 x at) ∙ elim (cases_eq e.0 at) [
-      | inl q ↦
-          let t : eqb e.0 at ≡ true = eq-eqb e.0 at q in
-          let none : mask_at es at ≡ 0 = zero_before es (e.0 + 1) at (rising_parts 0 e es p.0).2 (omega (arith, q)) in
-          rw (t, none) (or_zero x ∙ ap (λ y. bit_xor y (lowest e.1)) (sym (or_zero e.1)))
-      | inr q ↦
-          let t : eqb e.0 at ≡ false = ne_eqb e.0 at q in
-          rw t (sym (xor_zero (bit_or 0 (mask_at es at))))
+    let here : (at : ℕ) → e.0 ≡ at → mask_at (e ∷ es) at ≡ e.1 = λ at q. first e es 0 at p.0 q in
+    elim (cases_order e.0 at) [
+      | inl q ↦ rw (here at q, q) refl
+      | inr rest ↦ elim rest [
+        | inl lt ↦ absurd (omega (arith, (bits_parts e es p.1).0, sym (here e.0 refl) ∙ none e.0 lt))
+        | inr gt ↦ absurd (omega (arith, some, zero_before (e ∷ es) e.0 at (rising_here e es 0 p.0) gt))
+      ]
     ]
 
-pub rest_bytes : (es out : List Pair) → IsMask es → out ≡ without_least es → (at : ℕ) → mask_at out at ≡ bit_xor (mask_at es at) (bit_byte (least_bit es) at)
-rest_bytes es out m q at = rw q (rest_at es at m)
+-- where no bit stands, the least does not
+pub no_least : (es : List Pair) (at : ℕ) → IsMask es → mask_at es at ≡ 0 → bit_byte (least_bit es) at ≡ 0
+no_least [] at m none = refl
+no_least (e ∷ es) at m none = elim (cases_eq e.0 at) [
+  | inl q ↦
+      let p = mask_parts (e ∷ es) m in
+      absurd (omega (arith, (bits_parts e es p.1).0, sym (first e es 0 at p.0 q) ∙ none))
+  | inr q ↦ rw (ne_eqb e.0 at q) refl
+]
 
 -- the number of the least bit
 abbrev pub least_number : Pair → ℕ
@@ -150,8 +134,8 @@ rest_bits (e ∷ es) n m = elim (cases_eq n (least_number e)) [
       )
 ]
 
-pub rest_has : (es out : List Pair) → IsMask es → out ≡ without_least es → (n : ℕ) → Has out n ↔ (Has es n × (IsLeast es n → ⊥))
-rest_has es out m q n = rw (rest_bytes es out m q (n / 8)) (rest_bits es n m)
+pub rest_has : (es out : List Pair) → IsMask es → ((at : ℕ) → mask_at out at ≡ bit_xor (mask_at es at) (bit_byte (least_bit es) at)) → (n : ℕ) → Has out n ↔ (Has es n × (IsLeast es n → ⊥))
+rest_has es out m same n = rw (same (n / 8)) (rest_bits es n m)
 
 low_of : (e : Pair) (es : List Pair) → IsMask (e ∷ es) → (trailing_zeros w8 e.1 < 8) × (bit_at e.1 (trailing_zeros w8 e.1) ≡ 1)
 low_of e es m = let b = bits_parts e es (mask_parts (e ∷ es) m).1 in let low = low_bit e.1 b.0 b.1 in (low.0, low.1)

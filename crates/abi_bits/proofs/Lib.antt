@@ -2,9 +2,9 @@ pub mod Counts
 pub mod Entries
 pub mod Following
 pub mod Forbids
+pub mod Joining
 pub mod Least
 pub mod Masks
-pub mod Merging
-pub mod Searching
 pub mod Sets
+pub mod Spans
 pub mod Walking

@@ -1,22 +1,16 @@
 -- What a walk over a set has not passed.
-use Rattle.std.proofs.Common.{◌≡◌, ℕ, suc, ◌+◌, ◌<◌, ◌≤◌, Bool, cond, true, false, List, [], ◌∷◌, Option, Some, leb, ltb, refl, sym, ◌∙◌, inl, inr, arith, drop, drop-cons, get_or, length}
-use Rattle.std.specs.List.{find, filter, slice_get}
-use Rattle.std.proofs.lemmas.Bool.{and_from, le-leb, lt-leb, lt-ltb, cases_lt}
+use Rattle.std.proofs.Common.{◌≡◌, ℕ, ◌+◌, ◌<◌, ◌≤◌, Bool, true, false, List, [], ◌∷◌, Option, Some, None, cond, leb, refl, sym, ap, ◌∙◌, inl, inr, arith, get_or, length}
+use Rattle.std.specs.List.{filter}
+use Rattle.std.proofs.lemmas.Bool.Decides.{nat_tests}
+use Rattle.std.proofs.lemmas.Bool.{and_from, le-leb, lt-leb, cases_lt, cases_order}
 use Rattle.abi_bits.specs.Pairs.{Pair, are_rising}
-use Rattle.abi_bits.specs.Mask.{have_bits, IsMask, SameFrom}
-use Rattle.abi_bits.proofs.Masks.{rising_parts, bits_parts, rising_here, mask_parts, skip}
-use Rattle.abi_bits.proofs.Sets.{rising_lower}
+use Rattle.abi_bits.specs.Mask.{mask_at, have_bits, IsMask, IsNext}
+use Rattle.abi_bits.specs.Span.{byte_in, entries_in, first_in}
+use Rattle.abi_bits.proofs.Masks.{or_zero, zero_or, rising_parts, rising_with, bits_parts, bits_with, rising_lower, mask_parts}
+use Rattle.abi_bits.proofs.Entries.{same_bytes}
+use Rattle.abi_bits.proofs.Spans.{first_byte, byte_before, byte_lt, span_at, span_mask}
 
--- all entries of a set that begins at an offset or past it stay
-pub all_stay : (es : List Pair) (least from : ℕ) → are_rising least es ≡ true → from ≤ least → filter (λ e. leb from e.0) es ≡ es
-all_stay [] least from r le = refl
-all_stay (e ∷ es) least from r le =
-    let p = rising_parts least e es r in
-    let here : leb from e.0 ≡ true = le-leb from e.0 (omega (arith, p.0, le)) in
-    let rest : filter (λ e. leb from e.0) es ≡ es = all_stay es (e.0 + 1) from p.2 (omega (arith, p.0, le)) in
-    rw (here, rest) refl
-
-pub stay_is_mask : (es : List Pair) (from : ℕ) → IsMask es → IsMask (filter (λ e. leb from e.0) es)
+stay_is_mask : (es : List Pair) (from : ℕ) → IsMask es → IsMask (filter (λ e. leb from e.0) es)
 stay_is_mask es from m = let p = mask_parts es m in and_from (are_rising 0 (filter (λ e. leb from e.0) es)) (have_bits (filter (λ e. leb from e.0) es)) (rises es 0 p.0) (bits es p.1)
   where
     rises : (es : List Pair) (least : ℕ) → are_rising least es ≡ true → are_rising least (filter (λ e. leb from e.0) es) ≡ true
@@ -24,14 +18,8 @@ stay_is_mask es from m = let p = mask_parts es m in and_from (are_rising 0 (filt
     rises (e ∷ es) least r =
         let p = rising_parts least e es r in
         elim (cases_lt e.0 from) [
-          | inl lt ↦
-              let past : leb from e.0 ≡ false = lt-leb from e.0 lt in
-              rw past (rising_lower (filter (λ e. leb from e.0) es) (e.0 + 1) least (omega (arith, p.0)) (rises es (e.0 + 1) p.2))
-          | inr le ↦
-              let here : leb from e.0 ≡ true = le-leb from e.0 le in
-              let a : leb least e.0 ≡ true = le-leb least e.0 p.0 in
-              let b : ltb e.0 1048576 ≡ true = lt-ltb e.0 1048576 p.1 in
-              rw (here, a, b) (rises es (e.0 + 1) p.2)
+          | inl lt ↦ rw (lt-leb from e.0 lt) (rising_lower (filter (λ e. leb from e.0) es) (e.0 + 1) least (omega (arith, p.0)) (rises es (e.0 + 1) p.2))
+          | inr le ↦ rw (le-leb from e.0 le) (rising_with least e (filter (λ e. leb from e.0) es) p.0 p.1 (rises es (e.0 + 1) p.2))
         ]
 
     bits : (es : List Pair) → have_bits es ≡ true → have_bits (filter (λ e. leb from e.0) es) ≡ true
@@ -39,52 +27,70 @@ stay_is_mask es from m = let p = mask_parts es m in and_from (are_rising 0 (filt
     bits (e ∷ es) h =
         let p = bits_parts e es h in
         elim (cases_lt e.0 from) [
-          | inl lt ↦ let past : leb from e.0 ≡ false = lt-leb from e.0 lt in rw past (bits es p.2)
-          | inr le ↦
-              let here : leb from e.0 ≡ true = le-leb from e.0 le in
-              let a : ltb 0 e.1 ≡ true = lt-ltb 0 e.1 p.0 in
-              let b : ltb e.1 256 ≡ true = lt-ltb e.1 256 p.1 in
-              rw (here, a, b) (bits es p.2)
+          | inl lt ↦ rw (lt-leb from e.0 lt) (bits es p.2)
+          | inr le ↦ rw (le-leb from e.0 le) (bits_with e (filter (λ e. leb from e.0) es) p.0 p.1 (bits es p.2))
         ]
 
--- what is left tells every byte from the offset on
-pub stay_same : (es : List Pair) (from : ℕ) → SameFrom from es (filter (λ e. leb from e.0) es)
-stay_same [] from = λ at le. refl
-stay_same (e ∷ es) from = λ at le. elim (cases_lt e.0 from) [
-  | inl lt ↦
-      let past : leb from e.0 ≡ false = lt-leb from e.0 lt in
-      rw past (skip e es at (λ q. absurd (omega (arith, lt, le, q))) ∙ stay_same es from at le)
-  | inr g ↦
-      let here : leb from e.0 ≡ true = le-leb from e.0 g in
-      rw (here, stay_same es from at le) refl
-]
-
--- an entry that does not lie before the offset, and all past it, stay
-pub stay_here : (es whole : List Pair) (from i : ℕ) (d : Pair) → i < length es → are_rising 0 (drop i es) ≡ true → from ≤ (get_or es i d).0
-    → whole ≡ filter (λ e. leb from e.0) (drop i es) → drop i es ≡ whole
-stay_here es whole from i d lt r le is =
-    let cons : drop i es ≡ get_or es i d ∷ drop (suc i) es = drop-cons es i d lt in
-    let rises : are_rising (get_or es i d).0 (drop i es) ≡ true = rw cons (rising_here (get_or es i d) (drop (suc i) es) 0 (rw cons at r)) in
-    sym (is ∙ all_stay (drop i es) (get_or es i d).0 from rises le)
-
--- an entry that lies before the offset goes
-pub goes : (es whole : List Pair) (from i : ℕ) (d : Pair) → i < length es → are_rising 0 (drop i es) ≡ true → (get_or es i d).0 < from
-    → whole ≡ filter (λ e. leb from e.0) (drop i es) → (whole ≡ filter (λ e. leb from e.0) (drop (i + 1) es)) × (are_rising 0 (drop (i + 1) es) ≡ true)
-goes es whole from i d lt r before is =
-    let cons : drop i es ≡ get_or es i d ∷ drop (suc i) es = drop-cons es i d lt in
-    let next : i + 1 ≡ suc i = omega arith in
-    let past : leb from (get_or es i d).0 ≡ false = lt-leb from (get_or es i d).0 before in
-    let p = rising_parts 0 (get_or es i d) (drop (suc i) es) (rw cons at r) in
-    rw next (rw (cons, past) at is, rising_lower (drop (suc i) es) ((get_or es i d).0 + 1) 0 (omega arith) p.2)
-
-first_found : (T : Pair → Bool) (es : List Pair) → slice_get (filter T es) 0 ≡ find T es
-first_found T [] = refl
-first_found T (e ∷ es) = by_test (T e) (first_found T es)
+stay_at : (es : List Pair) (from at : ℕ) → mask_at (filter (λ e. leb from e.0) es) at ≡ cond (leb from at) (mask_at es at) 0
+stay_at [] from at = none (leb from at)
   where
-    by_test : (b : Bool) → slice_get (filter T es) 0 ≡ find T es → slice_get (cond b (e ∷ filter T es) (filter T es)) 0 ≡ cond b (Some e) (find T es)
-    by_test true h = refl
-    by_test false h = h
+    none : (b : Bool) → ◌≡◌ {A = ℕ} 0 (cond b 0 0)
+    none true = refl
+    none false = refl
+stay_at (e ∷ es) from at = here e (filter (λ e. leb from e.0) es) (stay_at es from at)
+  where
+    here : (e : Pair) (rest : List Pair) → mask_at rest at ≡ cond (leb from at) (mask_at es at) 0 → mask_at (cond (leb from e.0) (e ∷ rest) rest) at ≡ cond (leb from at) (mask_at (e ∷ es) at) 0
+    here e rest q = grind (arith, nat_tests, zero_or, or_zero)
 
--- what is left begins with the first entry at the offset or past it
-pub first_left : (es rest : List Pair) (from : ℕ) (found : Option Pair) → rest ≡ filter (λ e. leb from e.0) es → found ≡ slice_get rest 0 → found ≡ find (λ e. leb from e.0) es
-first_left es rest from found left first = rw left at first ∙ first_found (λ e. leb from e.0) es
+-- what is left of a row of bytes tells every byte from the offset on, and none before
+pub record IsLeft (start from : ℕ) (bs : List ℕ) (start' : ℕ) (rest : List ℕ) : Type 0 where
+  pub left : (at : ℕ) → from ≤ at → byte_in start' rest at ≡ byte_in start bs at
+  pub gone : (at : ℕ) → at < from → byte_in start' rest at ≡ 0
+
+nothing_in : (start at : ℕ) → byte_in start [] at ≡ 0
+nothing_in start at = grind (arith, nat_tests)
+
+pub left_mask : (start from start' : ℕ) (bs rest : List ℕ) → IsLeft start from bs start' rest → start' + length rest ≤ 1048576 → IsMask (entries_in start bs) → IsMask (entries_in start' rest)
+left_mask start from start' bs rest l within m = span_mask start' rest within (λ at. elim (cases_lt at from) [
+  | inl lt ↦ rw (l.gone at lt) (omega arith)
+  | inr le ↦ rw (l.left at le) (byte_lt start bs at m)
+])
+
+pub left_is : (start from start' : ℕ) (bs rest : List ℕ) → IsLeft start from bs start' rest → start' + length rest ≤ 1048576 → IsMask (entries_in start bs)
+    → entries_in start' rest ≡ filter (λ e. leb from e.0) (entries_in start bs)
+left_is start from start' bs rest l within m =
+    same_bytes (entries_in start' rest) (filter (λ e. leb from e.0) (entries_in start bs)) (left_mask start from start' bs rest l within m) (stay_is_mask (entries_in start bs) from m) (λ at.
+    rw (span_at start' rest at, stay_at (entries_in start bs) from at, span_at start bs at) (told at (l.left at) (l.gone at)))
+  where
+    told : (at : ℕ) → (from ≤ at → byte_in start' rest at ≡ byte_in start bs at) → (at < from → byte_in start' rest at ≡ 0) → byte_in start' rest at ≡ cond (leb from at) (byte_in start bs at) 0
+    told at left gone = grind (arith, nat_tests)
+
+pub left_next : (start from start' : ℕ) (bs rest : List ℕ) → IsLeft start from bs start' rest → (0 < length rest → 0 < get_or rest 0 0) → IsNext (entries_in start bs) from (first_in start' rest)
+left_next start from start' bs [] l some = λ at le. span_at start bs at ∙ sym (l.left at le) ∙ nothing_in start' at
+left_next start from start' bs (b ∷ rest) l some =
+    let first : 0 < b = some (omega arith) in
+    let reached : from ≤ start' = elim (cases_lt start' from) [ inr le ↦ le | inl lt ↦ absurd (omega (arith, first, sym (first_byte start' b rest) ∙ l.gone start' lt)) ] in (
+      reached,
+      first,
+      span_at start bs start' ∙ sym (l.left start' reached) ∙ first_byte start' b rest,
+      λ at le lt. span_at start bs at ∙ sym (l.left at le) ∙ byte_before start' (b ∷ rest) at lt,
+    )
+
+same_pair : (e f : Pair) → e.0 ≡ f.0 → e.1 ≡ f.1 → ◌≡◌ {A = Pair} e f
+same_pair (a, b) (c, d) p q = cc
+
+-- a set has one next byte
+pub next_once : (es : List Pair) (from : ℕ) (a b : Option Pair) → IsNext es from a → IsNext es from b → a ≡ b
+next_once es from None None i j = refl
+next_once es from None (Some f) i j = absurd (omega (arith, j.1, sym j.2 ∙ i f.0 j.0))
+next_once es from (Some e) None i j = absurd (omega (arith, i.1, sym i.2 ∙ j e.0 i.0))
+next_once es from (Some e) (Some f) i j =
+    let q : e.0 ≡ f.0 = elim (cases_order e.0 f.0) [
+      | inl q ↦ q
+      | inr rest ↦ elim rest [
+        | inl lt ↦ absurd (omega (arith, i.1, sym i.2 ∙ j.3 e.0 i.0 lt))
+        | inr gt ↦ absurd (omega (arith, j.1, sym j.2 ∙ i.3 f.0 j.0 gt))
+      ]
+    ] in
+    let same : ◌≡◌ {A = Pair} e f = same_pair e f q (sym i.2 ∙ ap (mask_at es) q ∙ j.2) in
+    cc

@@ -2,6 +2,6 @@ pub mod Count
 pub mod Forbidden
 pub mod Laws
 pub mod Mask
-pub mod Merge
 pub mod Pairs
 pub mod Single
+pub mod Span

@@ -1,5 +1,5 @@
 -- Masks: sets of bits. Bit k of the byte at offset i has the number 8 * i + k.
-use Rattle.std.specs.Prelude.{◌≡◌, ℕ, zero, suc, ◌/◌, ◌%◌, ◌^◌, ◌<◌, ◌≤◌, List, [], ◌∷◌, ◌++◌, Bool, ◌&&◌, nat_le, nat_lt, ◌==◌, IsTrue, Option, Some, None, bit_or, bit_xor, if◌then◌else◌}
+use Rattle.std.specs.Prelude.{◌≡◌, ℕ, zero, suc, ◌-◌, ◌*◌, ◌/◌, ◌%◌, ◌^◌, ◌<◌, ◌≤◌, List, [], ◌∷◌, ◌++◌, Bool, ◌&&◌, nat_le, nat_lt, ◌==◌, IsTrue, Option, Some, None, bit_or, if◌then◌else◌}
 use Rattle.std.specs.List.{list_all}
 use Rattle.std.specs.Int.{bit_at, trailing_zeros, w8}
 use Rattle.abi_bits.specs.Pairs.{Pair, are_rising}
@@ -38,6 +38,14 @@ unfoldable pub entries_below : (ℕ → ℕ) → ℕ → List Pair
 entries_below bits zero = []
 entries_below bits (suc n) = entries_below bits n ++ (if bits n == 0 then [] else (n, bits n) ∷ [])
 
+-- the byte of the set moved `by` bytes further on
+abbrev pub byte_moved : ℕ → List Pair → ℕ → ℕ
+byte_moved by es at = if nat_le by at then mask_at es (at - by) else 0
+
+-- bit number n is in the set moved `by` bytes further on
+abbrev pub HasMoved : ℕ → List Pair → ℕ → Type 0
+HasMoved by es n = (8 * by ≤ n) × Has es (n - 8 * by)
+
 -- all bits of the bytes from `from` up to `to`, none elsewhere
 abbrev pub full_between : ℕ → ℕ → ℕ → ℕ
 full_between from to at = if nat_le from at && nat_lt at to then 255 else 0
@@ -59,11 +67,6 @@ least_bit (e ∷ es) = Some (e.0, lowest e.1)
 abbrev pub bit_byte : Option Pair → ℕ → ℕ
 bit_byte None at = 0
 bit_byte (Some b) at = if b.0 == at then b.1 else 0
-
--- the entries of the set without its least bit
-abbrev pub without_least : List Pair → List Pair
-without_least [] = []
-without_least (e ∷ es) = (if bit_xor e.1 (lowest e.1) == 0 then [] else (e.0, bit_xor e.1 (lowest e.1)) ∷ []) ++ es
 
 -- a bit of the set that no other bit of it comes before
 pub record IsLeast (es : List Pair) (n : ℕ) : Type 0 where

@@ -21,6 +21,10 @@ is_pattern ps = not (is_empty ps) && are_rising 0 ps
 abbrev pub IsPattern : List Pair → Type 0
 IsPattern ps = IsTrue (is_pattern ps)
 
+-- each value is one of a byte
+abbrev pub are_bytes : List Pair → Bool
+are_bytes ps = list_all (λ p. nat_lt p.1 256) ps
+
 -- every named byte of the image has its value
 abbrev pub is_matched : List Pair → (ℕ → ℕ) → Bool
 is_matched ps image = list_all (λ p. image p.0 == p.1) ps

@@ -1,43 +1,47 @@
-ghost use Rattle.std.specs.Prelude.{◌≡◌, ◌↔◌, ◌≤◌, ◌<◌, ◌+◌, ◌-◌, ◌*◌, ◌/◌, ◌%◌, ◌^◌, ◌⊎◌, ℕ, ◌++◌, ◌==◌, ◌∷◌, [], nat_le, nat_lt, bit_and, bit_or, bit_xor, IsTrue, IsSome, IfSome, IfOk, OnOk, OnErr, length, slice_index, if◌then◌else◌};
+ghost use Rattle.std.specs.Prelude.{◌≡◌, ◌↔◌, ◌≤◌, ◌<◌, ◌+◌, ◌-◌, ◌*◌, ◌/◌, ◌%◌, ◌^◌, ◌⊎◌, ℕ, ◌++◌, ◌==◌, ◌∷◌, [], nat_le, nat_lt, bit_and, bit_or, bit_xor, IsTrue, IsSome, IfSome, IfOk, OnOk, OnErr, length, slice_index, vec_len, if◌then◌else◌};
 ghost use Rattle.std.specs.Int.{bit_at};
 ghost use Rattle.std.specs.List.{find};
 ghost use Rattle.std.specs.Option.{option_map};
 ghost use Rattle.abi_bits.specs.Pairs.{are_below, are_rising, is_empty, moved_pairs};
-ghost use Rattle.abi_bits.specs.Mask.{is_mask, IsMask, mask_at, Has, have_bits, IsNext, entries_below, full_between, lies_free, lowest, least_bit, bit_byte, without_least, IsLeast};
+ghost use Rattle.abi_bits.specs.Span.{IsSpan, byte_in};
+ghost use Rattle.abi_bits.specs.Mask.{is_mask, IsMask, mask_at, Has, have_bits, IsNext, byte_moved, HasMoved, full_between, lies_free, lowest, least_bit, bit_byte, IsLeast};
 
-use crate::Pairs;
-use crate::merge::{Join, merged};
-use crate::pairs::{are_below, are_rising, moved, push_moved, push_some};
+use crate::MAX_SIZE;
+use crate::pairs::are_rising;
+use crate::span::{byte_of, first, or_bytes, start_with, widen};
 use crate::walk::Walk;
 use abi_num::{Items, OutOfMemory};
 use std::alloc::Global;
 use std::marker::Model;
 
-/// A set of bits. Contracts see its entries: the bytes that have a bit of it, by rising offset, each with
-/// the mask of its bits.
+/// A set of bits: one array of bytes, from the least byte that has a bit of it to the greatest. Contracts
+/// see its entries: the bytes that have a bit of it, by rising offset, each with the mask of its bits.
 #[derive(Debug, Drop)]
 pub struct BitMask {
-    entries: Pairs,
+    start: u64,
+    bytes: Vec<u8>,
 }
 
 impl Model for BitMask {
     ghost use Rattle.std.specs.Prelude.{List, ℕ};
-    ghost use Rattle.abi_bits.specs.Mask.{IsMask};
+    ghost use Rattle.abi_bits.specs.Span.{entries_in, IsSpan};
 
     ghost Value = { List (ℕ × ℕ) };
 
-    ghost view = { λ m. m.entries };
+    ghost view = { λ m. entries_in m.start m.bytes.items };
 
-    ghost invariant = { λ m. IsMask m.entries };
+    ghost invariant = { λ m. IsSpan m.start m.bytes.items };
 }
 
 impl BitMask {
     /// The empty set. Takes no memory.
+    #[tactic(auto, using(crate::proofs::Spans::span_none, crate::proofs::Spans::none_span))]
     pub fn new(alloc: Global) -> BitMask
         ensures { result ≡ [] }
     {
         BitMask {
-            entries: Items::new(alloc),
+            start: 0,
+            bytes: Vec::new(alloc),
         }
     }
 
@@ -50,12 +54,14 @@ impl BitMask {
         ensures valid { IfOk result (λ found. IsSome found ↔ IsMask entries.now) }
         ensures same { IfOk result (λ found. IfSome found (λ mask. mask ≡ entries.now)) }
     {
-        if is_mask(entries) {
-            let entries = Items::from_slice(alloc, entries)?;
-            Ok(Some(BitMask { entries }))
-        } else {
-            Ok(None)
+        if !is_mask(entries) {
+            return Ok(None);
         }
+        let mut mask = BitMask::new(alloc);
+        for (offset, bits) in entries {
+            mask.push_byte(*offset, *bits)?;
+        }
+        Ok(Some(mask))
     }
 
     /// An equal set.
@@ -63,16 +69,20 @@ impl BitMask {
         ensures same { IfOk result (λ mask. mask ≡ self.now) }
         ensures valid { IsMask self.now }
     {
-        let entries = Items::from_slice(alloc, self.entries.as_slice())?;
-        Ok(BitMask { entries })
+        let bytes = Vec::from_slice(alloc, self.bytes.as_slice())?;
+        Ok(BitMask {
+            start: self.start,
+            bytes,
+        })
     }
 
     /// Whether no bit is in the set.
+    #[tactic(auto, using(crate::proofs::Spans::span_is_empty))]
     pub fn is_empty(&self) -> bool
         ensures same { result ≡ is_empty self.now }
         ensures valid { IsMask self.now }
     {
-        self.entries.as_slice().is_empty()
+        self.bytes.is_empty()
     }
 
     /// Whether each bit lies in the first `size` bytes.
@@ -80,17 +90,17 @@ impl BitMask {
         ensures same { result ≡ are_below size self.now }
         ensures valid { IsMask self.now }
     {
-        are_below(self.entries.as_slice(), size)
+        let bytes = self.bytes.as_slice();
+        bytes.is_empty() || self.start + bytes.len() as u64 <= size
     }
 
     /// The first byte at the offset `from` or past it that has a bit: its offset, and the mask of its bits.
-    #[tactic(auto, using(crate::proofs::Masks::next_is))]
     pub fn next_entry(&self, from: u64) -> Option<(u64, u8)>
         ensures same { result ≡ find (λ e. nat_le from e.0) self.now }
         ensures next { IsNext self.now from result }
         ensures valid { IsMask self.now }
     {
-        first_from(self.entries.as_slice(), from)
+        self.walk().next_entry(from)
     }
 
     /// A walk over the bytes of the set by rising offsets. Takes no memory.
@@ -98,32 +108,27 @@ impl BitMask {
         ensures same { result ≡ self.now }
         ensures valid { IsMask self.now }
     {
-        Walk::new(self.entries.as_slice())
+        Walk::new(self.start, self.bytes.as_slice())
     }
 
     /// The bits at the byte at offset `at`; 0 where none stands.
-    #[tactic(auto, using(crate::proofs::Masks::byte_at_next))]
+    #[tactic(auto, using(crate::proofs::Spans::span_at))]
     pub fn byte_at(&self, at: u64) -> u8
         ensures same { result ≡ mask_at self.now at }
         ensures bits { (k : ℕ) → k < 8 → (bit_at result k ≡ 1) ↔ Has self.now (8 * at + k) }
         ensures valid { IsMask self.now }
     {
-        match self.next_entry(at) {
-            Some((offset, mask)) if offset == at => mask,
-            _ => 0,
-        }
+        byte_of(self.start, self.bytes.as_slice(), at)
     }
 
-    /// The bits at each of the first `size` bytes, one byte each, in as many steps as the set has entries and
-    /// `size` tells.
+    /// The bits at each of the first `size` bytes, one byte each.
     pub fn bytes(&self, alloc: Global, size: u64) -> Result<Items<u8>, OutOfMemory>
         ensures length { IfOk result (λ bytes. length bytes ≡ size) }
         ensures same { IfOk result (λ bytes. (at : ℕ) → at < size → slice_index bytes at ≡ mask_at self.now at) }
     {
-        let mut walk = self.walk();
         let mut bytes = Items::new(alloc);
         for at in 0..size {
-            bytes.push(walk.byte_at(at))?;
+            bytes.push(self.byte_at(at))?;
         }
         Ok(bytes)
     }
@@ -136,55 +141,51 @@ impl BitMask {
         ensures ok { OnOk result (self.new ≡ self.old ++ (if mask == 0 then [] else (at, mask) ∷ [])) }
         ensures err { OnErr result (self.new ≡ self.old) }
     {
-        push_some(&mut self.entries, at, mask)
+        let _ = &self.start;
+        if mask == 0 {
+            return Ok(());
+        }
+        self.or_row(at, &[mask])?;
+        Ok(())
     }
 
     /// All bits of the `count` bytes from the offset `from` on.
-    #[tactic(auto, using(crate::proofs::Sets::full_is_mask, crate::proofs::Sets::full_bytes))]
     pub fn padding(alloc: Global, from: u64, count: u64) -> Result<BitMask, OutOfMemory>
         requires { from + count ≤ 1048576 }
         ensures valid { IfOk result (λ mask. IsMask mask) }
         ensures bytes { IfOk result (λ mask. (at : ℕ) → mask_at mask at ≡ full_between from (from + count) at) }
         ensures bits { IfOk result (λ mask. (n : ℕ) → Has mask n ↔ ((8 * from ≤ n) × (n < 8 * (from + count)))) }
     {
-        let entries = full_bytes(alloc, from, from + count)?;
-        Ok(BitMask { entries })
+        let bytes = vec![in alloc; 255; count as usize]?;
+        Ok(BitMask { start: from, bytes })
     }
 
     /// The bits of either set.
-    #[tactic(auto, using(crate::proofs::Sets::joined_is_mask, crate::proofs::Sets::union_bytes))]
     pub fn bit_or(&self, alloc: Global, other: &BitMask) -> Result<BitMask, OutOfMemory>
         ensures valid { IfOk result (λ mask. IsMask mask) }
         ensures bytes { IfOk result (λ mask. (at : ℕ) → mask_at mask at ≡ bit_or (mask_at self.now at) (mask_at other.now at)) }
         ensures bits { IfOk result (λ mask. (n : ℕ) → Has mask n ↔ (Has self.now n ⊎ Has other.now n)) }
     {
-        let entries = merged(
-            alloc,
-            Join::Union,
-            self.entries.as_slice(),
-            other.entries.as_slice(),
-        )?;
-        Ok(BitMask { entries })
+        let _ = &other.start;
+        let mut mask = self.copy(alloc)?;
+        mask.or_shifted(other, 0)?;
+        Ok(mask)
     }
 
     /// The bits of both sets.
-    #[tactic(auto, using(crate::proofs::Sets::joined_is_mask, crate::proofs::Sets::intersection_bytes))]
     pub fn bit_and(&self, alloc: Global, other: &BitMask) -> Result<BitMask, OutOfMemory>
         ensures valid { IfOk result (λ mask. IsMask mask) }
         ensures bytes { IfOk result (λ mask. (at : ℕ) → mask_at mask at ≡ bit_and (mask_at self.now at) (mask_at other.now at)) }
         ensures bits { IfOk result (λ mask. (n : ℕ) → Has mask n ↔ (Has self.now n × Has other.now n)) }
     {
-        let entries = merged(
-            alloc,
-            Join::Intersection,
-            self.entries.as_slice(),
-            other.entries.as_slice(),
-        )?;
-        Ok(BitMask { entries })
+        let mut mask = BitMask::new(alloc);
+        for at in self.start..self.start + self.bytes.len() as u64 {
+            mask.push_byte(at, self.byte_at(at) & other.byte_at(at))?;
+        }
+        Ok(mask)
     }
 
     /// The same bits, `by` bytes further on.
-    #[tactic(auto, using(crate::proofs::Sets::moved_is_mask, crate::proofs::Sets::moved_bytes))]
     pub fn shift(&self, alloc: Global, by: u64) -> Result<BitMask, OutOfMemory>
         requires { IsTrue (are_below 1048576 (moved_pairs by self.now)) }
         ensures same { IfOk result (λ mask. mask ≡ moved_pairs by self.now) }
@@ -192,13 +193,14 @@ impl BitMask {
         ensures bytes { IfOk result (λ mask. (at : ℕ) → mask_at mask at ≡ (if nat_le by at then mask_at self.now (at - by) else 0)) }
         ensures bits { IfOk result (λ mask. (n : ℕ) → Has mask n ↔ ((8 * by ≤ n) × Has self.now (n - 8 * by))) }
     {
-        let entries = moved(alloc, self.entries.as_slice(), by)?;
-        Ok(BitMask { entries })
+        let _ = &self.start;
+        let mut mask = BitMask::new(alloc);
+        mask.or_shifted(self, by)?;
+        Ok(mask)
     }
 
     /// The bits of both sets, those of `other` `by` bytes further on, where they lie past every byte of this
     /// set. Takes as long as `other` has bytes.
-    #[tactic(auto, using(crate::proofs::Following::followed_is_mask, crate::proofs::Following::followed_bytes))]
     pub fn with_moved(self, other: &BitMask, by: u64) -> Result<BitMask, OutOfMemory>
         requires above { IsTrue (are_below by self) }
         requires within { IsTrue (are_below 1048576 (moved_pairs by other.now)) }
@@ -206,9 +208,49 @@ impl BitMask {
         ensures valid { IfOk result (λ mask. IsMask mask) }
         ensures bytes { IfOk result (λ mask. (at : ℕ) → mask_at mask at ≡ bit_or (mask_at self at) (if nat_le by at then mask_at other.now (at - by) else 0)) }
     {
-        let mut entries = self.entries;
-        push_moved(&mut entries, other.entries.as_slice(), by)?;
-        Ok(BitMask { entries })
+        let _ = &self.start;
+        let _ = &other.start;
+        let mut mask = self;
+        mask.or_shifted(other, by)?;
+        Ok(mask)
+    }
+
+    /// Adds the bits of `other`, `by` bytes further on. The array grows at most to the least and the greatest
+    /// byte of the joined set. Refused for want of memory, it leaves the set as it was.
+    pub fn or_shifted(&mut self, other: &BitMask, by: u64) -> Result<(), OutOfMemory>
+        requires { IsTrue (are_below MAX_SIZE (moved_pairs by other.now)) }
+        ensures valid { IsMask self.new }
+        ensures bytes { OnOk result ((at : ℕ) → mask_at self.new at ≡ bit_or (mask_at self.old at) (byte_moved by other.now at)) }
+        ensures bits { OnOk result ((n : ℕ) → Has self.new n ↔ (Has self.old n ⊎ HasMoved by other.now n)) }
+        ensures err { OnErr result (self.new ≡ self.old) }
+    {
+        let _ = &self.start;
+        let row = other.bytes.as_slice();
+        if row.is_empty() {
+            return Ok(());
+        }
+        self.or_row(other.start + by, row)?;
+        Ok(())
+    }
+
+    /// Adds the bits of a row of bytes that begins at the offset `from` and of which the first and the last
+    /// have a bit.
+    fn or_row(&mut self, from: u64, row: &[u8]) -> Result<(), OutOfMemory>
+        requires some { 0 < length row.now }
+        requires span { IsSpan from row.now }
+        ensures valid { IsMask self.new }
+        ensures bytes { OnOk result ((at : ℕ) → mask_at self.new at ≡ bit_or (mask_at self.old at) (byte_in from row.now at)) }
+        ensures err { OnErr result (self.new ≡ self.old) }
+    {
+        let own = self.bytes.as_slice();
+        let at = start_with(self.start, own, from);
+        let start = at.min(from);
+        let end = (at + own.len() as u64).max(from + row.len() as u64);
+        let front = (at - start) as usize;
+        widen(&mut self.bytes, front, (end - start) as usize)?;
+        or_bytes(&mut self.bytes, row, (from - start) as usize);
+        self.start = start;
+        Ok(())
     }
 
     /// Whether every bit of the byte at offset `at` is in the set.
@@ -232,14 +274,17 @@ impl BitMask {
     }
 
     /// The set without its least bit; the empty set stays empty.
-    #[tactic(auto, using(crate::proofs::Least::rest_is_mask, crate::proofs::Least::rest_bytes))]
     pub fn extract_bit(&self, alloc: Global) -> Result<BitMask, OutOfMemory>
         ensures valid { IfOk result (λ mask. IsMask mask) }
         ensures bytes { IfOk result (λ mask. (at : ℕ) → mask_at mask at ≡ bit_xor (mask_at self.now at) (bit_byte (least_bit self.now) at)) }
         ensures bits { IfOk result (λ mask. (n : ℕ) → Has mask n ↔ (Has self.now n × (IsLeast self.now n → ⊥))) }
     {
-        let entries = without_least(alloc, self.entries.as_slice())?;
-        Ok(BitMask { entries })
+        let least = self.least_bit();
+        let mut rest = BitMask::new(alloc);
+        for at in self.start..self.start + self.bytes.len() as u64 {
+            rest.push_byte(at, self.byte_at(at) ^ bit_byte(least, at))?;
+        }
+        Ok(rest)
     }
 
     /// The offset of the byte of the least bit; `None` exactly for the empty set.
@@ -250,7 +295,7 @@ impl BitMask {
         ensures none { (result ≡ None) ↔ (self.now ≡ []) }
         ensures valid { IsMask self.now }
     {
-        let (offset, _) = least_bit(self.entries.as_slice())?;
+        let (offset, _) = self.least_bit()?;
         Some(offset)
     }
 
@@ -262,31 +307,20 @@ impl BitMask {
         ensures none { (result ≡ None) ↔ (self.now ≡ []) }
         ensures valid { IsMask self.now }
     {
-        let (_, mask) = least_bit(self.entries.as_slice())?;
+        let (_, mask) = self.least_bit()?;
         Some(mask)
     }
-}
 
-/// All bits of the bytes from the offset `from` up to `to`.
-#[tactic(auto, using(crate::proofs::Sets::full_start, crate::proofs::Sets::full_more))]
-fn full_bytes(alloc: Global, from: u64, to: u64) -> Result<Pairs, OutOfMemory>
-    requires { from ≤ to }
-    ensures { IfOk result (λ entries. entries ≡ entries_below (full_between from to) to) }
-{
-    let mut entries = Items::new(alloc);
-    for at in from..to {
-        entries.push((at, 255))?;
-    }
-    Ok(entries)
-}
-
-fn least_bit(entries: &[(u64, u8)]) -> Option<(u64, u8)>
-    requires { IsTrue (have_bits entries.now) }
-    ensures { result ≡ least_bit entries.now }
-{
-    match entries.first() {
-        Some((offset, mask)) => Some((*offset, lowest_bit(*mask))),
-        None => None,
+    /// The least bit: the offset of its byte, and its value there.
+    #[tactic(auto, using(crate::proofs::Spans::span_least))]
+    fn least_bit(&self) -> Option<(u64, u8)>
+        ensures same { result ≡ least_bit self.now }
+        ensures valid { IsMask self.now }
+    {
+        match first(self.start, self.bytes.as_slice()) {
+            Some((offset, mask)) => Some((offset, lowest_bit(mask))),
+            None => None,
+        }
     }
 }
 
@@ -298,39 +332,13 @@ fn lowest_bit(mask: u8) -> u8
     1 << mask.trailing_zeros()
 }
 
-fn without_least(alloc: Global, entries: &[(u64, u8)]) -> Result<Pairs, OutOfMemory>
-    requires { IsTrue (have_bits entries.now) }
-    ensures { IfOk result (λ rest. rest ≡ without_least entries.now) }
+/// What a bit is at the byte at offset `at`.
+fn bit_byte(bit: Option<(u64, u8)>, at: u64) -> u8
+    ensures { result ≡ bit_byte bit at }
 {
-    let mut rest = Items::new(alloc);
-    if let Some(((offset, mask), others)) = entries.split_first() {
-        push_some(&mut rest, *offset, *mask ^ lowest_bit(*mask))?;
-        for (offset, mask) in others {
-            rest.push((*offset, *mask))?;
-        }
-    }
-    Ok(rest)
-}
-
-#[tactic(auto, using(crate::proofs::Searching::first_some, crate::proofs::Searching::first_none))]
-fn first_from(entries: &[(u64, u8)], from: u64) -> Option<(u64, u8)>
-    requires { IsTrue (are_rising 0 entries.now) }
-    ensures { result ≡ find (λ e. nat_le from e.0) entries.now }
-{
-    let mut low = 0;
-    let mut high = entries.len();
-    while low < high {
-        let middle = low + (high - low) / 2;
-        if entries[middle].0 < from {
-            low = middle + 1;
-        } else {
-            high = middle;
-        }
-    }
-    if low < entries.len() {
-        Some(entries[low])
-    } else {
-        None
+    match bit {
+        Some((offset, mask)) if offset == at => mask,
+        _ => 0,
     }
 }
 

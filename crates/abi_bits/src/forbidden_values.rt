@@ -1,7 +1,7 @@
 ghost use Rattle.std.specs.Prelude.{◌≡◌, ◌↔◌, ◌+◌, ◌++◌, true, false, IsTrue, IfOk, OnOk, length, slice_index, map, if◌then◌else◌};
 ghost use Rattle.std.specs.List.{list_all, list_any, find};
 ghost use Rattle.std.specs.Option.{option_map};
-ghost use Rattle.abi_bits.specs.Pairs.{are_below, is_matched, moved_pairs};
+ghost use Rattle.abi_bits.specs.Pairs.{is_pattern, are_bytes, are_below, is_matched, moved_pairs};
 ghost use Rattle.abi_bits.specs.Mask.{lies_free};
 ghost use Rattle.abi_bits.specs.Single.{answer};
 ghost use Rattle.abi_bits.specs.Forbidden.{items, head, single, offered, is_match, is_ranged, are_items_below, AreSound, is_solid_byte, is_solid_item, moved_item, is_nothing, is_one_range, ends_in_pattern};
@@ -77,7 +77,9 @@ impl ForbiddenValues {
     /// The patterns that the leaves offer, from left to right: a range offers its least value.
     pub fn patterns(&self, alloc: Global) -> Result<Patterns, OutOfMemory>
         requires { AreSound (items self.now) }
-        ensures { IfOk result (λ patterns. patterns ≡ offered (items self.now)) }
+        ensures same { IfOk result (λ patterns. patterns ≡ offered (items self.now)) }
+        ensures patterns { IfOk result (λ patterns. IsTrue (list_all is_pattern patterns)) }
+        ensures bytes { IfOk result (λ patterns. IsTrue (list_all are_bytes patterns)) }
     {
         let mut patterns = Items::new(alloc);
         self.push_patterns(alloc, &mut patterns)?;
@@ -86,11 +88,14 @@ impl ForbiddenValues {
 
     fn push_patterns(&self, alloc: Global, patterns: &mut Patterns) -> Result<(), OutOfMemory>
         requires { AreSound (items self.now) }
-        ensures { OnOk result (patterns.new ≡ patterns.old ++ offered (items self.now)) }
+        ensures same { OnOk result (patterns.new ≡ patterns.old ++ offered (items self.now)) }
+        ensures patterns { OnOk result (IsTrue (list_all is_pattern (offered (items self.now)))) }
+        ensures bytes { OnOk result (IsTrue (list_all are_bytes (offered (items self.now)))) }
     {
         match self {
             ForbiddenValues::End => Ok(()),
             ForbiddenValues::Array(pattern) => {
+                are_bytes(pattern.pairs());
                 let pattern = pattern.copy(alloc)?;
                 patterns.push(pattern)?;
                 Ok(())
@@ -297,6 +302,15 @@ impl ForbiddenValues {
             ForbiddenValues::Or(left, right) => left.is_solid(size, free)
                 & right.is_solid(size, free),
         }
+    }
+}
+
+/// Changes nothing. A proof knows of a value that it is a byte only where it is looked at.
+fn are_bytes(pairs: &[(u64, u8)])
+    ensures { IsTrue (are_bytes pairs.now) }
+{
+    for (_, byte) in pairs {
+        let _byte = *byte;
     }
 }
 

@@ -4,11 +4,11 @@
 mod bit_mask;
 mod forbidden_values;
 pub mod laws;
-mod merge;
 mod pairs;
 mod pattern;
 mod saturating_add_value;
 mod single_forbidden_value;
+mod span;
 #[cfg(test)]
 mod tests;
 mod walk;

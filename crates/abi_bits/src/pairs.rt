@@ -59,29 +59,3 @@ pub(crate) fn with_front(
     }
     Ok(all)
 }
-
-/// Adds the byte `mask` at the offset `at`, where it has a bit.
-pub(crate) fn push_some(entries: &mut Pairs, at: u64, mask: u8) -> Result<(), OutOfMemory>
-    ensures ok { OnOk result (entries.new ≡ entries.old ++ (if mask == 0 then [] else (at, mask) ∷ [])) }
-    ensures err { OnErr result (entries.new ≡ entries.old) }
-{
-    if mask != 0 {
-        entries.push((at, mask))?;
-    }
-    Ok(())
-}
-
-/// Adds these pairs, `by` bytes further on.
-pub(crate) fn push_moved(
-    entries: &mut Pairs,
-    pairs: &[(u64, u8)],
-    by: u64,
-) -> Result<(), OutOfMemory>
-    requires { IsTrue (are_below 1048576 (moved_pairs by pairs.now)) }
-    ensures { OnOk result (entries.new ≡ entries.old ++ moved_pairs by pairs.now) }
-{
-    for (offset, byte) in pairs {
-        entries.push((*offset + by, *byte))?;
-    }
-    Ok(())
-}

@@ -1,37 +1,41 @@
 //! Walks over sets of bits by rising offsets.
-ghost use Rattle.std.specs.Prelude.{◌≡◌, nat_le, slice_get, IsTrue};
+ghost use Rattle.std.specs.Prelude.{◌≡◌, ◌≤◌, ◌<◌, ◌+◌, ℕ, nat_le, length, slice_index};
 ghost use Rattle.std.specs.List.{find, filter};
-ghost use Rattle.abi_bits.specs.Pairs.{are_rising};
 ghost use Rattle.abi_bits.specs.Mask.{mask_at, IsMask, IsNext, SameFrom};
+ghost use Rattle.abi_bits.specs.Span.{byte_in, entries_in, first_in};
 
+use crate::MAX_SIZE;
+use crate::span::first;
 use std::marker::Model;
 
-/// A walk over the bytes of a set of bits by rising offsets. It passes each entry once, so a whole walk takes
-/// as many steps as the set has entries and the walk is asked. Contracts see the part of the set that it has
-/// not passed.
+/// A walk over the bytes of a set of bits by rising offsets. It passes each byte once. Contracts see the part
+/// of the set that it has not passed.
 #[derive(Debug, Drop)]
 pub struct Walk<'a> {
-    rest: &'a [(u64, u8)],
+    start: u64,
+    rest: &'a [u8],
 }
 
 impl<'a> Model for Walk<'a> {
-    ghost use Rattle.std.specs.Prelude.{List, ℕ};
+    ghost use Rattle.std.specs.Prelude.{List, ℕ, ◌+◌, ◌≤◌, length};
     ghost use Rattle.abi_bits.specs.Mask.{IsMask};
+    ghost use Rattle.abi_bits.specs.Span.{entries_in};
 
     ghost Value = { List (ℕ × ℕ) };
 
-    ghost view = { λ w. w.rest.now };
+    ghost view = { λ w. entries_in w.start w.rest.now };
 
-    ghost invariant = { λ w. IsMask w.rest.now };
+    ghost invariant = { λ w. (w.start + length w.rest.now ≤ 1048576) × IsMask (entries_in w.start w.rest.now) };
 }
 
 impl<'a> Walk<'a> {
-    /// The walk over the set with these entries.
-    pub(crate) fn new(entries: &'a [(u64, u8)]) -> Walk<'a>
-        requires { IsMask entries.now }
-        ensures { result ≡ entries.now }
+    /// The walk over the set with these bytes, the first of which stands at `start`.
+    pub(crate) fn new(start: u64, bytes: &'a [u8]) -> Walk<'a>
+        requires within { start + length bytes.now ≤ MAX_SIZE }
+        requires mask { IsMask (entries_in start bytes.now) }
+        ensures { result ≡ entries_in start bytes.now }
     {
-        Walk { rest: entries }
+        Walk { start, rest: bytes }
     }
 
     /// The first byte at the offset `from` or past it that has a bit and was not passed: its offset, and the
@@ -43,8 +47,10 @@ impl<'a> Walk<'a> {
         ensures left { SameFrom from self.old self.new }
         ensures valid { IsMask self.old }
     {
-        self.rest = rest_from(self.rest, from);
-        first(self.rest)
+        let (start, rest) = rest_from(self.start, self.rest, from);
+        self.start = start;
+        self.rest = rest;
+        first(start, rest)
     }
 
     /// The bits at the byte at offset `at`; 0 where none stands or where it was passed. Passes the bytes
@@ -63,24 +69,20 @@ impl<'a> Walk<'a> {
     }
 }
 
-/// The entries at the offset `from` and past it.
-fn rest_from(entries: &[(u64, u8)], from: u64) -> &[(u64, u8)]
-    requires { IsTrue (are_rising 0 entries.now) }
-    ensures { result.now ≡ filter (λ e. nat_le from e.0) entries.now }
+/// What stands at the offset `from` or past it, from the first byte there that has a bit on: its offset, and
+/// the bytes from it on.
+fn rest_from(start: u64, bytes: &[u8], from: u64) -> (u64, &[u8])
+    requires { start + length bytes.now ≤ MAX_SIZE }
+    ensures left { (at : ℕ) → from ≤ at → byte_in result.0 result.1.now at ≡ byte_in start bytes.now at }
+    ensures gone { (at : ℕ) → at < from → byte_in result.0 result.1.now at ≡ 0 }
+    ensures within { result.0 + length result.1.now ≤ MAX_SIZE }
+    ensures some { 0 < length result.1.now → 0 < slice_index result.1.now 0 }
 {
-    for index in 0..entries.len() {
-        if entries[index].0 >= from {
-            return &entries[index..];
+    let skipped = from.saturating_sub(start).min(bytes.len() as u64) as usize;
+    for index in skipped..bytes.len() {
+        if bytes[index] != 0 {
+            return (start + index as u64, &bytes[index..]);
         }
     }
-    &[]
-}
-
-fn first(entries: &[(u64, u8)]) -> Option<(u64, u8)>
-    ensures { result ≡ slice_get entries.now 0 }
-{
-    match entries.first() {
-        Some((offset, mask)) => Some((*offset, *mask)),
-        None => None,
-    }
+    (start, &[])
 }

@@ -1,9 +1,9 @@
-use Rattle.std.proofs.Common.{◌≡◌, leb, drop, true}
-use Rattle.std.specs.List.{filter}
-use Rattle.abi_bits.specs.Pairs.{are_rising}
+use Rattle.std.proofs.Common.{◌≡◌, ◌+◌, ◌<◌, ◌≤◌, ◌⊎◌, ℕ, get_or, length}
 use Rattle.abi_bits.proofs.walk.rest_from.Given as goal
 
 abbrev pub invariant-loop-index : goal.invariant-loop-index
-invariant-loop-index l =
-    (filter (λ e. leb l.from e.0) l.entries ≡ filter (λ e. leb l.from e.0) (drop l.index l.entries))
-    × (are_rising 0 (drop l.index l.entries) ≡ true)
+invariant-loop-index l = record {
+  inside : l.index ≤ length l.bytes;
+  reached : (l.from ≤ l.start + l.index) ⊎ (length l.bytes ≤ l.index);
+  none : (k : ℕ) → k < l.index → l.from ≤ l.start + k → get_or l.bytes k 0 ≡ 0;
+}

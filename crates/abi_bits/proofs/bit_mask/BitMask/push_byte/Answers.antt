@@ -1,15 +1,12 @@
 use Rattle.std.proofs.Common.{arith}
-use Rattle.abi_bits.specs.Mask.{IsMask}
-use Rattle.abi_bits.proofs.Entries.{mask_pushed}
+use Rattle.abi_bits.proofs.Entries.{positive}
+use Rattle.abi_bits.proofs.Spans.{single_span, pushed}
 use Rattle.abi_bits.proofs.bit_mask.BitMask.push_byte.Goals as goal
-use Rattle.abi_bits.proofs.bit_mask.BitMask.push_byte.Goals.{After-push_some}
 
-kept : (c : After-push_some) → IsMask c.push_some.new.entries
-kept c =
-    mask_pushed c.push_some.result c.self.inside.entries _ c.args.at c.args.mask c.push_some.ensures.ok c.push_some.ensures.err c.self.invariant (rw (← c.self.view_is) at c.requires.above) c.requires.within (omega (arith, c.ranges.mask.fits))
+pub or_row-requires-clause-span : goal.or_row-requires-clause-span
+or_row-requires-clause-span c = single_span c.args.at c.args.mask c.requires.within (positive c.args.mask c.if-mask-eq0.false) (omega (arith, c.ranges.mask.fits))
 
-pub invariant_of-self : goal.invariant_of-self
-invariant_of-self c = kept c
-
-pub returns-clause-valid : goal.returns-clause-valid
-returns-clause-valid c = kept c
+pub returns-clause-ok : goal.returns-clause-ok
+returns-clause-ok c =
+    pushed c.args.at c.args.mask c.args.self.now _ (rw c.self.view_is at c.self.invariant.mask) c.in_ok-or_row.ensures.valid c.requires.above c.requires.within
+    (omega (arith, c.ranges.mask.fits)) c.in_ok-or_row.ensures.bytes
