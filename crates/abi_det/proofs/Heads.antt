@@ -1,9 +1,13 @@
--- The head of forbidden values is what their first item offers.
-use Rattle.std.proofs.Common.{◌≡◌, List, [], ◌∷◌, ◌++◌, Option, Some, None, sym, ap, ◌∙◌, subst}
+-- The head of forbidden values is what their first item offers, and what a frame keeps for this and what its items offer.
+use Rattle.std.specs.List.{list_all}
+use Rattle.std.proofs.Common.{◌≡◌, true, List, [], ◌∷◌, ◌++◌, Option, Some, None, sym, ap, ◌∙◌, subst}
 use Rattle.std.proofs.lemmas.List.{map-append}
-use Rattle.abi_bits.specs.Pairs.{Pair}
+use Rattle.abi_bits.specs.Pairs.{Pair, is_pattern, are_bytes}
+use Rattle.abi_bits.specs.Mask.{IsMask}
 use Rattle.abi_bits.specs.Forbidden.{Item, items, items_step, head, head_step, offer, offered}
+use Rattle.abi_det.specs.Frame.{Frame, IsLawful}
 use Rattle.abi_det.specs.Offers.{first_of}
+use Rattle.abi_det.specs.Owed.{IsSound}
 use Rattle.abi_det.specs.Laws.{HeadLaw}
 use Rattle.abi_bits.specs.declared.forbidden_values.ForbiddenValues.{ForbiddenValues, ind-ForbiddenValues}
 use Rattle.abi_bits.specs.declared.forbidden_values.ForbiddenValues.TheOpen.{ForbiddenValues-F}
@@ -56,3 +60,14 @@ leads = ind-ForbiddenValues Leads (λ x y e.
 
 pub head_leads : HeadLaw
 head_leads v ps is = let l = leads v ps is in ap first_of l.1
+
+-- a lawful frame with the items and the head of forbidden values is sound
+pub frame_sound : (f : Frame) (v : ForbiddenValues) (pss : List (List Pair)) → IsLawful f → IsMask f.free → items v ≡ f.forbids → head v ≡ f.head → pss ≡ offered (items v)
+    → list_all is_pattern pss ≡ true → list_all are_bytes pss ≡ true → IsSound f
+frame_sound f v pss lawful mask its hd is patterns bytes = record {
+  lawful = lawful;
+  mask = mask;
+  patterns = rw (← its, ← is) patterns;
+  bytes = rw (← its, ← is) bytes;
+  leads = λ ps e. rw (← its) (head_leads v ps (hd ∙ e));
+}

@@ -13,10 +13,12 @@ use Rattle.abi_det.specs.Frame.{Frame}
 use Rattle.abi_det.specs.Roles.{union_byte, lies_free, spare_byte, is_place, union_size, larger, smaller, ok_is_larger, sum_align}
 use Rattle.abi_det.specs.State.{is_tested}
 use Rattle.abi_det.specs.Written.{without, beside_tag, means_ok, placed, tagged, niched, written_placement}
-use Rattle.abi_det.specs.Offers.{Rules, One, Two, Niche, first_of, leading_pattern, first_offer}
+use Rattle.abi_det.specs.Offers.{Rules, Niche, first_of, leading_pattern, first_offer}
 use Rattle.abi_det.specs.Niches.{IsLeading, IsNiche, IsFirstBelow}
 use Rattle.abi_det.specs.Owed.{IsSound, is_free_at, IsTest, IsSide, IsOwed}
 use Rattle.abi_det.specs.Laws.{OwedLaw}
+use Rattle.abi_det.specs.declared.rules.Rules.TheVariants as version
+use Rattle.abi_det.specs.declared.placements.Placement.{Placement}
 use Rattle.abi_det.specs.declared.placements.Kind.{Kind}
 use Rattle.abi_det.specs.declared.placements.Kind.TheVariants as kind
 use Rattle.abi_det.specs.declared.determinant.Test.{Test}
@@ -156,8 +158,8 @@ leading_offered : (rules : Rules) (large : Frame) → IsSound large → (ps : Li
 leading_offered rules large sound ps is = first_there (offered large.forbids) (leads rules is)
   where
     leads : (rules : Rules) → leading_pattern rules large ≡ Some ps → first_of (offered large.forbids) ≡ Some ps
-    leads One is = sound.leads ps is
-    leads Two is = is
+    leads version.One is = sound.leads ps is
+    leads version.Two is = is
 
     first_there : (pss : List (List Pair)) → first_of pss ≡ Some ps → (0 < length pss) × (ps ≡ get_or pss 0 [])
     first_there [] is = absurd (cc)
@@ -358,3 +360,13 @@ owed rules ok err so se =
     by_search : (o : Option (ℕ × Niche)) → IsFirstBelow rules (larger ok err) (smaller ok err) (union_size ok err) 8 o → IsOwed ok err (placed ok err o)
     by_search None none = tag_owes ok err so se
     by_search (Some found) f = niche_owes_both rules ok err so se found.0 f.2.0 found.1 f.1 f.2.1
+
+-- the variants are sound where both roles are
+both_sound : (b : Bool) (ok err : Frame) → IsSound (cond b ok err) → IsSound (cond b err ok) → IsSound ok × IsSound err
+both_sound true ok err l s = (l, s)
+both_sound false ok err l s = (s, l)
+
+pub placement_owed : (rules : Rules) (ok err : Frame) (p : Placement) → IsSound (larger ok err) → IsSound (smaller ok err) → p ≡ written_placement rules ok err → IsOwed ok err p
+placement_owed rules ok err p l s is =
+    let both = both_sound (ok_is_larger ok err) ok err l s in
+    subst (λ x. IsOwed ok err x) (sym is) (owed rules ok err both.0 both.1)

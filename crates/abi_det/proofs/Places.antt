@@ -3,7 +3,7 @@ use Rattle.std.proofs.Common.{◌≡◌, ℕ, zero, suc, ◌+◌, ◌*◌, ◌<�
 use Rattle.std.proofs.lemmas.Bool.{eqb-true, eq-eqb, cases_lt}
 use Rattle.abi_det.specs.Frame.{Frame}
 use Rattle.abi_det.specs.Roles.{larger, smaller, union_size, is_place}
-use Rattle.abi_det.specs.Offers.{Rules, One, Niche, offer_at, first_offer}
+use Rattle.abi_det.specs.Offers.{Rules, Niche, offer_at, first_offer}
 use Rattle.abi_det.specs.Written.{written_placement, niched, tagged}
 use Rattle.abi_det.specs.Search.{niche_of}
 use Rattle.abi_det.specs.declared.search.Found.{Found}
@@ -45,11 +45,12 @@ module _ (rules : Rules) (large small : Frame) (size : ℕ) where
   first_found k f before is lt offers = sym (kept (suc k) 8 (k, niche_of f) (omega arith) (rw (before, is, ← offers) refl))
 
 -- the placement that the first offer makes is the written one
-pub written_niched : (ok err : Frame) (k : ℕ) (f : Found) → Some (k, niche_of f) ≡ first_offer One (larger ok err) (smaller ok err) (union_size ok err) 8
-    → niched ok err k (niche_of f) ≡ written_placement One ok err
+pub written_niched : (rules : Rules) (ok err : Frame) (k : ℕ) (f : Found) → Some (k, niche_of f) ≡ first_offer rules (larger ok err) (smaller ok err) (union_size ok err) 8
+    → niched ok err k (niche_of f) ≡ written_placement rules ok err
 unfolding written_placement
-written_niched ok err k f h = rw (← h) refl
+written_niched rules ok err k f h = rw (← h) refl
 
-pub written_tagged : (ok err : Frame) → None ≡ first_offer One (larger ok err) (smaller ok err) (union_size ok err) 8 → tagged ok err ≡ written_placement One ok err
+pub written_tagged : (rules : Rules) (ok err : Frame) → None ≡ first_offer rules (larger ok err) (smaller ok err) (union_size ok err) 8
+    → tagged ok err ≡ written_placement rules ok err
 unfolding written_placement
-written_tagged ok err h = rw (← h) refl
+written_tagged rules ok err h = rw (← h) refl

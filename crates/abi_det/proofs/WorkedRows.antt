@@ -5,7 +5,7 @@ use Rattle.abi_bits.specs.Mask.{entries_below}
 use Rattle.abi_bits.specs.Forbidden.{pattern, range}
 use Rattle.abi_bits.specs.declared.saturating_add_value.SaturatingAddValue.TheVariants as count
 use Rattle.abi_det.specs.Frame.{Frame}
-use Rattle.abi_det.specs.Offers.{One, offer_at, first_offer}
+use Rattle.abi_det.specs.Offers.{One, Two, offer_at, first_offer}
 use Rattle.abi_det.specs.Written.{written_placement, refusals_below}
 use Rattle.abi_det.specs.declared.placements.Kind.TheVariants as kind
 use Rattle.abi_det.specs.declared.determinant.Test.TheVariants as test
@@ -103,3 +103,31 @@ second_place : written_placement One (record { size = 2; align = 1; free = (0, 2
 }
 unfolding written_placement first_offer offer_at entries_below refusals_below count_trailing_zeros plain
 second_place = refl
+
+-- beside `()`, which is empty: the leftmost leaf is the u32's and offers nothing, so under rules one no pattern is taken, and the least free bit is bit 0 of byte 5
+bit_under_one : written_placement One word_and_bool (plain 0 1) ≡ record {
+  ok_shift = 0;
+  err_shift = 0;
+  place = 0;
+  front = 0;
+  kind = kind.SharedBit;
+  determinant = record { «not» = false; test = test.BitIsErr 5 1 };
+  exported = (5, 254) ∷ (6, 255) ∷ (7, 255) ∷ [];
+  refusals = [];
+}
+unfolding written_placement first_offer offer_at entries_below refusals_below count_trailing_zeros plain word_and_bool
+bit_under_one = refl
+
+-- under rules two the first that any item offers is taken: the least value that no bool has, in the bool's byte 4; the padding stays free
+pattern_under_two : written_placement Two word_and_bool (plain 0 1) ≡ record {
+  ok_shift = 0;
+  err_shift = 0;
+  place = 0;
+  front = 0;
+  kind = kind.LargerPattern;
+  determinant = record { «not» = false; test = test.ValueIsErr ((4, 2) ∷ []) };
+  exported = (5, 255) ∷ (6, 255) ∷ (7, 255) ∷ [];
+  refusals = [];
+}
+unfolding written_placement first_offer offer_at entries_below refusals_below plain word_and_bool
+pattern_under_two = refl

@@ -9,11 +9,18 @@ use Rattle.abi_det.specs.declared.placements.Kind.{Kind}
 use Rattle.abi_det.specs.declared.placements.Kind.TheVariants as kind
 use Rattle.abi_det.specs.declared.determinant.Test.{Test}
 use Rattle.abi_det.specs.declared.determinant.Test.TheVariants as test
+use Rattle.abi_det.specs.declared.rules.Rules.{Rules as DeclaredRules}
+use Rattle.abi_det.specs.declared.rules.Rules.TheVariants as version
 
--- the rules of the layout, by version: they differ in what an empty smaller variant sees of the larger
-pub data Rules : Type 0 where
-  One : Rules
-  Two : Rules
+-- the rules of the layout, by version, under one name for the crates above
+abbrev pub Rules : Type 0
+Rules = DeclaredRules
+
+abbrev pub One : Rules
+One = version.One
+
+abbrev pub Two : Rules
+Two = version.Two
 
 -- a niche, and the test that finds it
 pub record Niche : Type 0 where
@@ -46,8 +53,8 @@ larger_pattern large small size shift = find (lies_free (union_byte small shift 
 
 -- what an empty smaller variant takes of the larger's patterns: the head, or under rules two the first
 abbrev pub leading_pattern : Rules → Frame → Option (List Pair)
-leading_pattern One large = large.head
-leading_pattern Two large = first_of (offered large.forbids)
+leading_pattern version.One large = large.head
+leading_pattern version.Two large = first_of (offered large.forbids)
 
 -- the least bit that both leave free
 abbrev pub shared_bit : Frame → Frame → ℕ → ℕ → Option Pair

@@ -3,6 +3,7 @@ use Rattle.std.specs.Prelude.{◌≡◌, ℕ, ◌+◌, ◌-◌, ◌^◌, ◌<◌
 use Rattle.std.specs.Int.{bit_at}
 use Rattle.std.specs.List.{list_all, list_any}
 use Rattle.abi_bits.specs.Pairs.{Pair, is_pattern, IsPattern, are_below}
+pub use Rattle.abi_bits.specs.Pairs.{are_bytes}
 use Rattle.abi_bits.specs.Mask.{mask_at, IsMask}
 use Rattle.abi_bits.specs.Forbidden.{is_match, offered}
 use Rattle.abi_det.specs.Frame.{Frame, IsLawful}
@@ -12,10 +13,6 @@ use Rattle.abi_det.specs.State.{test_holds, is_tested}
 use Rattle.abi_det.specs.declared.placements.Placement.{Placement}
 use Rattle.abi_det.specs.declared.determinant.Test.{Test}
 use Rattle.abi_det.specs.declared.determinant.Test.TheVariants as test
-
--- each value is one of a byte
-abbrev pub are_bytes : List Pair → Bool
-are_bytes ps = list_all (λ p. nat_lt p.1 256) ps
 
 -- what the frame of every layout keeps: the rule of lawful layouts, entries in order, patterns in order and of bytes, and a head that is the first offered pattern
 pub record IsSound (f : Frame) : Type 0 where

@@ -1,5 +1,5 @@
 -- The written placement of a sum, its refusals, and its frame.
-use Rattle.std.specs.Prelude.{ℕ, zero, suc, ◌+◌, ◌*◌, List, [], ◌∷◌, ◌++◌, Bool, true, false, ◌&&◌, ◌||◌, not, ◌==◌, Option, Some, None, map, bit_xor, is_none, if◌then◌else◌}
+use Rattle.std.specs.Prelude.{◌≡◌, ℕ, zero, suc, ◌+◌, ◌*◌, List, [], ◌∷◌, ◌++◌, Bool, true, false, ◌&&◌, ◌||◌, not, ◌==◌, Option, Some, None, map, bit_xor, is_none, if◌then◌else◌}
 use Rattle.std.specs.List.{list_any}
 use Rattle.abi_bits.specs.Pairs.{Pair, moved_pairs}
 use Rattle.abi_bits.specs.Mask.{entries_below}
@@ -114,6 +114,10 @@ placed ok err (Some found) = niched ok err found.0 found.1
 unfoldable pub written_placement : Rules → Frame → Frame → Placement
 written_placement rules ok err = placed ok err (first_offer rules (larger ok err) (smaller ok err) (union_size ok err) 8)
 
+-- the placement is that of the two under some rules
+abbrev pub IsPlacement : Frame → Frame → Placement → Type 0
+IsPlacement ok err p = (rules : Rules) × (p ≡ written_placement rules ok err)
+
 -- the frame of a sum with this placement
 abbrev pub sum_frame : Frame → Frame → Placement → Frame
 sum_frame ok err p = record {
@@ -128,3 +132,7 @@ sum_frame ok err p = record {
 
 unfoldable pub written_sum : Rules → Frame → Frame → Frame
 written_sum rules ok err = sum_frame ok err (written_placement rules ok err)
+
+-- the frame is the written one under whichever rules the placement is
+abbrev pub IsWrittenWith : Frame → Frame → Placement → Frame → Type 0
+IsWrittenWith ok err p sum = (rules : Rules) → p ≡ written_placement rules ok err → sum ≡ written_sum rules ok err

@@ -2,7 +2,7 @@ ghost use Rattle.std.specs.Prelude.{◌≡◌, ◌↔◌, ◌≤◌, ◌<◌, Is
 ghost use Rattle.std.specs.List.{list_any};
 
 use crate::raw_layout::RawLayout;
-use abi_bits::{BitMask, ForbiddenValues, SaturatingAddValue};
+use abi_bits::{BitMask, ForbiddenValues, Patterns, SaturatingAddValue};
 use abi_num::OutOfMemory;
 use std::alloc::Global;
 use std::marker::Model;
@@ -31,7 +31,8 @@ impl Layout {
     ghost use Rattle.abi_det.specs.Frame.{IsLawful};
     ghost use Rattle.abi_det.specs.FrameOf.{frame};
     ghost use Rattle.abi_bits.specs.Mask.{IsMask};
-    ghost use Rattle.abi_bits.specs.Forbidden.{items, head, is_match, AreSound};
+    ghost use Rattle.abi_bits.specs.Forbidden.{items, head, offered, is_match, AreSound};
+    ghost use Rattle.abi_det.specs.Owed.{IsSound};
 
     /// The layout of these parts; `None` exactly where they break the rule of lawful layouts.
     pub fn new(raw: RawLayout) -> Option<Layout>
@@ -99,12 +100,27 @@ impl Layout {
         &self.raw.forbidden
     }
 
+    /// The patterns that the forbidden values offer, in order.
+    pub(crate) fn patterns(&self, alloc: Global) -> Result<Patterns, OutOfMemory>
+        ensures same { IfOk result (λ patterns. patterns ≡ offered self.now.forbids) }
+        ensures sound { IfOk result (λ _. IsSound self.now) }
+    {
+        // Does nothing: its clause on the free bits is wanted.
+        self.unused();
+        let patterns = self.forbidden().patterns(alloc)?;
+        Ok(patterns)
+    }
+
     /// Bits that no value fixes: the free bits.
     pub fn unused(&self) -> &BitMask
         ensures same { result.now ≡ self.now.free }
+        ensures mask { IsMask self.now.free }
         ensures lawful { IsLawful self.now }
     {
-        &self.raw.unused
+        let unused = &self.raw.unused;
+        // Does nothing: its clause is wanted, that the entries are in order.
+        unused.walk();
+        unused
     }
 
     /// How many niches are counted.

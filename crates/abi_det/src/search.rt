@@ -2,16 +2,18 @@ ghost use Rattle.std.specs.Prelude.{◌≡◌, ◌≤◌, ◌<◌, ◌*◌, IsTr
 ghost use Rattle.std.specs.List.{find};
 ghost use Rattle.abi_bits.specs.Pairs.{moved_pairs};
 ghost use Rattle.abi_bits.specs.Mask.{lowest};
-ghost use Rattle.abi_bits.specs.Forbidden.{offered};
+ghost use Rattle.abi_bits.specs.Forbidden.{items, head, offered, AreSound};
+ghost use Rattle.abi_det.specs.Owed.{IsSound};
 ghost use Rattle.abi_det.specs.Roles.{union_byte, spare_byte, is_place, AreFirstBytes};
-ghost use Rattle.abi_det.specs.Offers.{One, by_pattern, by_bit, or_else, leading_pattern, smaller_pattern, larger_pattern, shared_bit, offer_at, first_offer};
+ghost use Rattle.abi_det.specs.Offers.{first_of, by_pattern, by_bit, or_else, leading_pattern, smaller_pattern, larger_pattern, shared_bit, offer_at, first_offer};
 
 use crate::determinant::Test;
 use crate::layout::Layout;
 use crate::placements::Kind;
 use crate::roles::{PLACES, Roles};
+use crate::rules::Rules;
 use crate::spot::Spot;
-use abi_bits::{Pattern, Patterns, SingleForbiddenValue};
+use abi_bits::{ForbiddenValues, Pattern, Patterns, SingleForbiddenValue};
 use abi_num::{Items, OutOfMemory};
 use std::alloc::Global;
 
@@ -36,9 +38,10 @@ impl<'a> Roles<'a> {
     pub(crate) fn offered(&self, alloc: Global) -> Result<Offered, OutOfMemory>
         ensures larger { IfOk result (λ o. o.larger ≡ offered self.now.large.now.forbids) }
         ensures smaller { IfOk result (λ o. o.smaller ≡ offered self.now.small.now.forbids) }
+        ensures sound { IfOk result (λ _. IsSound self.now.large.now × IsSound self.now.small.now) }
     {
-        let larger = self.large.forbidden().patterns(alloc)?;
-        let smaller = self.small.forbidden().patterns(alloc)?;
+        let larger = self.large.patterns(alloc)?;
+        let smaller = self.small.patterns(alloc)?;
         Ok(Offered { larger, smaller })
     }
 
@@ -93,19 +96,41 @@ impl<'a> Roles<'a> {
 impl Roles<'_> {
     ghost use Rattle.abi_det.specs.Search.{niche_of, IsSpared};
 
+    /// What an empty smaller variant takes of the larger's patterns.
+    fn leading_pattern(
+        &self,
+        alloc: Global,
+        rules: Rules,
+        patterns: &Offered,
+    ) -> Result<Option<Pattern>, OutOfMemory>
+        requires { patterns.now.larger ≡ offered self.now.large.now.forbids }
+        ensures { IfOk result (λ found. found ≡ leading_pattern rules self.now.large.now) }
+    {
+        let found = match rules {
+            Rules::One => head(alloc, self.large.forbidden())?,
+            Rules::Two => first(alloc, patterns.larger.as_slice())?,
+        };
+        Ok(found)
+    }
+
     /// What place 0 of an empty smaller variant offers.
-    fn offer_to_empty(&self, alloc: Global) -> Result<Option<Found>, OutOfMemory>
+    fn offer_to_empty(
+        &self,
+        alloc: Global,
+        rules: Rules,
+        patterns: &Offered,
+    ) -> Result<Option<Found>, OutOfMemory>
+        requires { patterns.now.larger ≡ offered self.now.large.now.forbids }
         ensures same { IfOk result (λ found. option_map niche_of found
-            ≡ or_else (by_pattern Kind.LargerPattern (leading_pattern One self.now.large.now)) (by_bit (shared_bit self.now.large.now self.now.small.now self.now.size 0))) }
+            ≡ or_else (by_pattern Kind.LargerPattern (leading_pattern rules self.now.large.now)) (by_bit (shared_bit self.now.large.now self.now.small.now self.now.size 0))) }
         ensures spared { IfOk result (λ found. IfSome found (λ f. IsSpared (spare_byte self.now.large.now self.now.small.now 0 self.now.size) f.test)) }
     {
-        match self.large.forbidden().select_one(alloc)? {
-            SingleForbiddenValue::Array(pattern) => Ok(Some(Found {
+        match self.leading_pattern(alloc, rules, patterns)? {
+            Some(pattern) => Ok(Some(Found {
                 kind: Kind::LargerPattern,
                 test: Test::ValueIsErr(pattern),
             })),
-            SingleForbiddenValue::End => Ok(self.shared_bit(0)),
-            SingleForbiddenValue::Saturator => Ok(self.shared_bit(0)),
+            None => Ok(self.shared_bit(0)),
         }
     }
 
@@ -171,18 +196,19 @@ impl Roles<'_> {
     fn offer_at(
         &self,
         alloc: Global,
+        rules: Rules,
         patterns: &Offered,
         place: u64,
     ) -> Result<Option<Found>, OutOfMemory>
         requires larger { patterns.now.larger ≡ offered self.now.large.now.forbids }
         requires smaller { patterns.now.smaller ≡ offered self.now.small.now.forbids }
         requires exists { IsTrue (is_place self.now.small.now self.now.size place) }
-        ensures same { IfOk result (λ found. option_map niche_of found ≡ offer_at One self.now.large.now self.now.small.now self.now.size place) }
+        ensures same { IfOk result (λ found. option_map niche_of found ≡ offer_at rules self.now.large.now self.now.small.now self.now.size place) }
         ensures spared { IfOk result (λ found. IfSome found (λ f.
             IsSpared (spare_byte self.now.large.now self.now.small.now (place * self.now.small.now.align) self.now.size) f.test)) }
     {
         if self.small.size() == 0 {
-            let found = self.offer_to_empty(alloc)?;
+            let found = self.offer_to_empty(alloc, rules, patterns)?;
             Ok(found)
         } else {
             let found = self.offer_beside(alloc, patterns, self.shift(place))?;
@@ -195,18 +221,19 @@ impl Roles<'_> {
     pub(crate) fn first_offer(
         &self,
         alloc: Global,
+        rules: Rules,
         patterns: &Offered,
     ) -> Result<Option<(u64, Found)>, OutOfMemory>
         requires larger { patterns.now.larger ≡ offered self.now.large.now.forbids }
         requires smaller { patterns.now.smaller ≡ offered self.now.small.now.forbids }
-        ensures same { IfOk result (λ found. option_map (λ f. (f.0, niche_of f.1)) found ≡ first_offer One self.now.large.now self.now.small.now self.now.size 8) }
+        ensures same { IfOk result (λ found. option_map (λ f. (f.0, niche_of f.1)) found ≡ first_offer rules self.now.large.now self.now.small.now self.now.size 8) }
         ensures exists { IfOk result (λ found. IfSome found (λ f. IsTrue (is_place self.now.small.now self.now.size f.0))) }
         ensures spared { IfOk result (λ found. IfSome found (λ f.
             IsSpared (spare_byte self.now.large.now self.now.small.now (f.0 * self.now.small.now.align) self.now.size) f.1.test)) }
     {
         for place in 0..PLACES {
             if self.has_place(place) {
-                if let Some(found) = self.offer_at(alloc, patterns, place)? {
+                if let Some(found) = self.offer_at(alloc, rules, patterns, place)? {
                     return Ok(Some((place, found)));
                 }
             }
@@ -229,6 +256,31 @@ pub(crate) fn spread(
     } else {
         let bytes = layout.unused().bytes(alloc, layout.size())?;
         Ok(bytes)
+    }
+}
+
+/// What the very leftmost leaf offers.
+fn head(alloc: Global, values: &ForbiddenValues) -> Result<Option<Pattern>, OutOfMemory>
+    requires { AreSound (items values.now) }
+    ensures { IfOk result (λ found. found ≡ head values.now) }
+{
+    match values.select_one(alloc)? {
+        SingleForbiddenValue::Array(pattern) => Ok(Some(pattern)),
+        SingleForbiddenValue::End => Ok(None),
+        SingleForbiddenValue::Saturator => Ok(None),
+    }
+}
+
+/// The first of the patterns.
+fn first(alloc: Global, patterns: &[Pattern]) -> Result<Option<Pattern>, OutOfMemory>
+    ensures { IfOk result (λ found. found ≡ first_of patterns.now) }
+{
+    match patterns.first() {
+        Some(pattern) => {
+            let pattern = pattern.copy(alloc)?;
+            Ok(Some(pattern))
+        }
+        None => Ok(None),
     }
 }
 

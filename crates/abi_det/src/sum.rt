@@ -1,9 +1,9 @@
 ghost use Rattle.std.specs.Prelude.{◌≡◌, ◌+◌, ◌≤◌, ◌<◌, ◌*◌, IsTrue, IfOk, if◌then◌else◌};
-ghost use Rattle.abi_bits.specs.Forbidden.{offered};
 ghost use Rattle.abi_det.specs.Roles.{larger, smaller, union_size, spare_byte, is_place};
 ghost use Rattle.abi_det.specs.Offers.{One};
+ghost use Rattle.abi_det.specs.Owed.{IsOwed};
 ghost use Rattle.abi_det.specs.Search.{niche_of, IsSpared};
-ghost use Rattle.abi_det.specs.Written.{written_placement, written_sum, niched, tagged, means_ok, refusals_below};
+ghost use Rattle.abi_det.specs.Written.{written_placement, sum_frame, IsPlacement, IsWrittenWith, niched, tagged, means_ok, refusals_below};
 ghost use Rattle.abi_det.specs.Frame.{IsLawful};
 ghost use Rattle.abi_det.specs.FrameOf.{frame};
 
@@ -13,6 +13,7 @@ use crate::layout::Layout;
 use crate::placements::{Kind, Placement, Refusals};
 use crate::raw_layout::RawLayout;
 use crate::roles::{Roles, sum_align, union_size};
+use crate::rules::Rules;
 use crate::search::{Found, spread};
 use abi_bits::{ForbiddenValues, SaturatingAddValue};
 use abi_num::{Items, OutOfMemory};
@@ -20,18 +21,35 @@ use std::alloc::Global;
 
 /// Where the variants of a sum of the two stand and what tells them apart: the first place of the smaller
 /// variant that offers a niche, there the first kind, there the first pattern or the least bit; a tag where
-/// no place offers one.
-#[tactic(auto, using(crate::proofs::Places::written_niched, crate::proofs::Places::written_tagged))]
+/// no place offers one. An empty smaller variant takes the head of the larger's patterns.
 pub fn placement(alloc: Global, ok: &Layout, err: &Layout) -> Result<Placement, OutOfMemory>
     ensures written { IfOk result (λ p. p ≡ written_placement One ok.now err.now) }
+    ensures placed { IfOk result (λ p. IsPlacement ok.now err.now p) }
     ensures front { IfOk result (λ p. p.front ≤ 65536) }
+    ensures owed { IfOk result (λ p. IsOwed ok.now err.now p) }
+{
+    let placement = placement_by(alloc, Rules::One, ok, err)?;
+    Ok(placement)
+}
+
+/// The placement under these rules: `placement` answers that under the first.
+pub fn placement_by(
+    alloc: Global,
+    rules: Rules,
+    ok: &Layout,
+    err: &Layout,
+) -> Result<Placement, OutOfMemory>
+    ensures written { IfOk result (λ p. p ≡ written_placement rules ok.now err.now) }
+    ensures placed { IfOk result (λ p. IsPlacement ok.now err.now p) }
+    ensures front { IfOk result (λ p. p.front ≤ 65536) }
+    ensures owed { IfOk result (λ p. IsOwed ok.now err.now p) }
 {
     let roles = Roles::new(ok, err);
     let patterns = roles.offered(alloc)?;
     let large_bytes = spread(alloc, roles.large, patterns.smaller.as_slice())?;
     let small_bytes = spread(alloc, roles.small, patterns.larger.as_slice())?;
     let roles = roles.with_bytes(large_bytes.as_slice(), small_bytes.as_slice());
-    match roles.first_offer(alloc, &patterns)? {
+    match roles.first_offer(alloc, rules, &patterns)? {
         Some((place, found)) => {
             let placement = niched(alloc, ok, err, place, found)?;
             Ok(placement)
@@ -44,17 +62,19 @@ pub fn placement(alloc: Global, ok: &Layout, err: &Layout) -> Result<Placement, 
     }
 }
 
-/// The layout of the sum of the two with its placement. The size that `sum_size` tells must be at most
-/// `MAX_SIZE`.
+/// The layout of the sum of the two with its placement, which is that under some rules. The size that
+/// `sum_size` tells must be at most `MAX_SIZE`.
 pub fn sum_layout(
     alloc: Global,
     ok: &Layout,
     err: &Layout,
     p: &Placement,
 ) -> Result<Layout, OutOfMemory>
-    requires placed { p.now ≡ written_placement One ok.now err.now }
+    requires placed { IsPlacement ok.now err.now p.now }
     requires small { union_size ok.now err.now + p.now.front ≤ 1048576 }
-    ensures { IfOk result (λ l. l ≡ written_sum One ok.now err.now) }
+    ensures same { IfOk result (λ l. l ≡ sum_frame ok.now err.now p.now) }
+    ensures written { IfOk result (λ l. IsWrittenWith ok.now err.now p.now l) }
+    ensures lawful { IfOk result (λ l. IsLawful l) }
 {
     let raw = raw_sum(alloc, ok, err, p)?;
     match Layout::new(raw) {
@@ -70,9 +90,9 @@ fn raw_sum(
     err: &Layout,
     p: &Placement,
 ) -> Result<RawLayout, OutOfMemory>
-    requires placed { p.now ≡ written_placement One ok.now err.now }
+    requires placed { IsPlacement ok.now err.now p.now }
     requires small { union_size ok.now err.now + p.now.front ≤ 1048576 }
-    ensures same { IfOk result (λ raw. frame raw ≡ written_sum One ok.now err.now) }
+    ensures same { IfOk result (λ raw. frame raw ≡ sum_frame ok.now err.now p.now) }
     ensures lawful { IfOk result (λ raw. IsLawful (frame raw)) }
 {
     let unused = p.exported.copy(alloc)?;

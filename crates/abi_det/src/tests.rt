@@ -1,6 +1,9 @@
+ghost use Rattle.std.specs.Prelude.{◌≡◌, length};
+ghost use Rattle.abi_det.specs.State.{IsCovered};
+
 use crate::{
-    Determinant, Kind, Layout, Placement, RawLayout, Refusal, Test, check_refusal, placement,
-    sum_layout, sum_size,
+    Determinant, Kind, Layout, Placement, RawLayout, Refusal, Rules, Test, check_refusal,
+    placement, placement_by, sum_layout, sum_size,
 };
 use abi_bits::{BitMask, ForbiddenValues, Pattern, SaturatingAddValue};
 use abi_num::Items;
@@ -145,11 +148,10 @@ fn told(alloc: Global, p: &Placement, size: u64) -> Result<String, AllocError> {
     Ok(out)
 }
 
-/// The placement of the two: sizes and offsets in bytes, and what is free and refused.
-fn placed(alloc: Global, ok: &Layout, err: &Layout) -> Result<String, Fail> {
-    let p = placement(alloc, ok, err)?;
-    let size = sum_size(ok, err, &p);
-    let text = told(alloc, &p, size)?;
+/// What a placement of the two is: sizes and offsets in bytes, and what is free and refused.
+fn placed(alloc: Global, ok: &Layout, err: &Layout, p: &Placement) -> Result<String, Fail> {
+    let size = sum_size(ok, err, p);
+    let text = told(alloc, p, size)?;
     Ok(text)
 }
 
@@ -360,8 +362,36 @@ fn placements_of_two_layouts(rt: HostRuntime) -> Result<(), Fail> {
     for row in &ROWS {
         let ok = row.ok.layout(rt.alloc())?;
         let err = row.err.layout(rt.alloc())?;
-        let told = placed(rt.alloc(), &ok, &err)?;
+        let p = placement(rt.alloc(), &ok, &err)?;
+        let told = placed(rt.alloc(), &ok, &err, &p)?;
         assert_eq!(rt; told.as_str(), row.told);
+    }
+    Ok(())
+}
+
+// The four bytes in front forbid nothing, so the larger has no head. The first pattern that it offers is 2 in the `bool`
+// at offset 4; its least free bit is the lowest of the padding from offset 5 on.
+#[test]
+fn an_empty_variant_takes_the_head_or_the_first_pattern(rt: HostRuntime) -> Result<(), Fail> {
+    let ok = WORD_AND_BOOL.layout(rt.alloc())?;
+    let err = UNIT.layout(rt.alloc())?;
+    for (rules, row, left) in [
+        (
+            Rules::One,
+            "size 8 place 0 front 0 ok 0 err 0 bit 5:1 means err free 5:254 6:255 7:255",
+            254,
+        ),
+        (
+            Rules::Two,
+            "size 8 place 0 front 0 ok 0 err 0 larger 4=2 means err free 5:255 6:255 7:255",
+            255,
+        ),
+    ] {
+        let p = placement_by(rt.alloc(), rules, &ok, &err)?;
+        let told = placed(rt.alloc(), &ok, &err, &p)?;
+        assert_eq!(rt; told.as_str(), row);
+        let sum = sum_layout(rt.alloc(), &ok, &err, &p)?;
+        assert_eq!(rt; (sum.size(), sum.unused().byte_at(5)), (8, left));
     }
     Ok(())
 }
@@ -430,4 +460,69 @@ fn a_tag_changes_its_own_bit(rt: HostRuntime) {
     assert!(rt; tag.is_det_ok(&bytes));
     assert_eq!(rt; bytes, [6, 7]);
     assert!(rt; !tag.is_niche_trick());
+}
+
+/// Has the determinant write the variant into the bytes.
+fn write(determinant: &Determinant, means_ok: bool, bytes: &mut [u8])
+    requires { IsCovered determinant.now.test (length bytes.old) }
+    ensures { length bytes.new ≡ length bytes.old }
+{
+    if means_ok {
+        determinant.ok(bytes);
+    } else {
+        determinant.err(bytes);
+    }
+}
+
+#[test]
+fn a_pattern_is_written_and_never_taken_back(rt: HostRuntime) -> Result<(), Fail> {
+    for not in [false, true] {
+        let pattern = Pattern::new(rt.alloc(), &[(1, 2), (3, 9)])?.ok_or("no pattern")?;
+        let determinant = Determinant {
+            not,
+            test: Test::ValueIsErr(pattern),
+        };
+        let mut bytes = [5, 6, 7, 8];
+        // the variant that the absent pattern means changes nothing
+        write(&determinant, !not, &mut bytes);
+        assert_eq!(rt;
+            (bytes, determinant.is_det_ok(&bytes)),
+            ([5, 6, 7, 8], !not)
+        );
+        write(&determinant, not, &mut bytes);
+        assert_eq!(rt; (bytes, determinant.is_det_ok(&bytes)), ([5, 2, 7, 9], not));
+        write(&determinant, !not, &mut bytes);
+        assert_eq!(rt; (bytes, determinant.is_det_ok(&bytes)), ([5, 2, 7, 9], not));
+        // a byte of the pattern alone is no match
+        bytes[3] = 8;
+        assert_eq!(rt; determinant.is_det_ok(&bytes), !not);
+        assert!(rt; determinant.is_niche_trick());
+    }
+    Ok(())
+}
+
+#[test]
+fn a_bit_is_set_and_cleared_alone(rt: HostRuntime) {
+    // the offset, the mask, and bytes with the bit clear and with it set
+    for (offset, mask, clear, set) in [
+        (0u64, 1u8, [6, 7], [7, 7]),
+        (1, 4, [255, 0], [255, 4]),
+        (1, 128, [0, 127], [0, 255]),
+    ] {
+        assert!(rt; offset < 2 && mask.is_power_of_two());
+        for not in [false, true] {
+            let determinant = Determinant {
+                not,
+                test: Test::BitIsErr { offset, mask },
+            };
+            let mut bytes = clear;
+            write(&determinant, not, &mut bytes);
+            assert_eq!(rt; (bytes, determinant.is_det_ok(&bytes)), (set, not));
+            write(&determinant, not, &mut bytes);
+            assert_eq!(rt; bytes, set);
+            write(&determinant, !not, &mut bytes);
+            assert_eq!(rt; (bytes, determinant.is_det_ok(&bytes)), (clear, !not));
+            assert!(rt; determinant.is_niche_trick());
+        }
+    }
 }

@@ -1,25 +1,14 @@
--- One level of a description or a value.
-use Rattle.std.proofs.Common.{◌≡◌, ℕ, zero, suc, ◌<◌, ◌-◌, None, refl, arith}
+-- One level of what is read.
+use Rattle.std.proofs.Common.{◌≡◌, ℕ, zero, suc, ◌<◌, ◌-◌, Option, None, refl, arith}
 use Rattle.serde_json.specs.Data.{Data}
-use Rattle.abi_document.specs.Descriptions.{desc_step, desc_at}
-use Rattle.abi_document.specs.Values.{value_step, value_at}
+use Rattle.abi_document.specs.Forms.{nested}
 
-pub desc_at_none : (levels : ℕ) (d : Data) → levels ≡ 0 → None ≡ desc_at levels d
-unfolding desc_at
-desc_at_none zero d e = refl
-desc_at_none (suc n) d e = absurd (omega (arith, e))
+pub no_level : {A : Type 0} (step : (Data → Option A) → Data → Option A) (levels : ℕ) (d : Data) → levels ≡ 0 → None ≡ nested step levels d
+unfolding nested
+no_level step zero d e = refl
+no_level step (suc n) d e = absurd (omega (arith, e))
 
-pub desc_at_above : (levels : ℕ) (d : Data) → 0 < levels → desc_step (desc_at (levels - 1)) d ≡ desc_at levels d
-unfolding desc_at
-desc_at_above zero d lt = absurd (omega (arith, lt))
-desc_at_above (suc n) d lt = let e : suc n - 1 ≡ n = omega arith in rw e refl
-
-pub value_at_none : (levels : ℕ) (d : Data) → levels ≡ 0 → None ≡ value_at levels d
-unfolding value_at
-value_at_none zero d e = refl
-value_at_none (suc n) d e = absurd (omega (arith, e))
-
-pub value_at_above : (levels : ℕ) (d : Data) → 0 < levels → value_step (value_at (levels - 1)) d ≡ value_at levels d
-unfolding value_at
-value_at_above zero d lt = absurd (omega (arith, lt))
-value_at_above (suc n) d lt = let e : suc n - 1 ≡ n = omega arith in rw e refl
+pub one_level : {A : Type 0} (step : (Data → Option A) → Data → Option A) (levels : ℕ) (d : Data) → 0 < levels → step (nested step (levels - 1)) d ≡ nested step levels d
+unfolding nested
+one_level step zero d lt = absurd (omega (arith, lt))
+one_level step (suc n) d lt = let e : suc n - 1 ≡ n = omega arith in rw e refl

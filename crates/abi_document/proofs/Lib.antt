@@ -1,7 +1,5 @@
-pub mod Fields
+pub mod Arrays
 pub mod Keys
 pub mod Levels
-pub mod Lists
 pub mod Nesting
 pub mod Numerals
-pub mod Pairs

@@ -1,21 +1,26 @@
 -- Parts of a tree nest fewer levels than the tree, so a count of levels above them refuses none.
 use Rattle.std.specs.Prelude.{codes, option_and_then, option_map}
-use Rattle.std.specs.Str.{bytes_eq}
-use Rattle.std.specs.Ordering.{nat_cmp, match_ordering}
+use Rattle.std.specs.Ordering.{match_ordering}
 use Rattle.std.specs.Cmp.Lexicographic.{slice_cmp}
-use Rattle.std.proofs.Common.{◌≡◌, ℕ, zero, suc, ◌<◌, ◌≤◌, max, List, Bool, true, false, cond, Option, Some, None, Ordering, Less, Equal, Greater, refl, sym, ap, arith}
+use Rattle.std.specs.Ordering.{nat_cmp}
+use Rattle.std.proofs.Common.{◌≡◌, ℕ, zero, suc, ◌<◌, ◌≤◌, max, List, [], ◌∷◌, Option, Some, None, Ordering, Less, Equal, Greater, refl, sym, ap, arith}
 use Rattle.std.proofs.Math.Nat.{le-max_left, le-max_right}
 use Rattle.serde_json.specs.Data.{Data, null, boolean, number, string, array, object, Items, no_items, item, Members, no_members, member, depth, items_depth, members_depth}
-use Rattle.serde_json.specs.Find.{get, get_member, as_array}
-use Rattle.abi_layout.specs.declared.prim.Primitive.{Primitive}
-use Rattle.abi_layout.specs.Trees.{Tree, option}
-use Rattle.abi_pack.specs.Plain.{Plain, list, variant}
-use Rattle.abi_pack.specs.declared.part.Sort.TheVariants as sort
-use Rattle.abi_document.specs.Forms.{only}
-use Rattle.abi_document.specs.Descriptions.{prim_of, field_of, fields_of, struct_of, result_of, desc_by, desc_step, desc_at}
-use Rattle.abi_document.specs.Values.{values_of, variant_by, variant_of, value_step, value_at}
+use Rattle.serde_json.specs.Find.{get, get_member, as_array, as_object}
+use Rattle.abi_layout.specs.Trees.{Tree}
+use Rattle.abi_pack.specs.Plain.{Plain, list}
+use Rattle.abi_pack.specs.View.{plains_of}
+use Rattle.abi_document.specs.Forms.{nested, by_key, only_one, sole_member, only_two, pair_of, all_of}
+use Rattle.abi_document.specs.Descriptions as desc
+use Rattle.abi_document.specs.Descriptions.{field_of, struct_of, pair_at, desc_step, desc_at}
+use Rattle.abi_document.specs.Values as value
+use Rattle.abi_document.specs.Values.{value_step, value_at}
 
 -- ---- parts nest less
+
+bound : {A B : Type 0} (found : Option A) (next : A → Option B) (b : B) → option_and_then next found ≡ Some b → (a : A) × (found ≡ Some a) × (next a ≡ Some b)
+bound None next b is = absurd (cc)
+bound (Some a) next b is = (a, refl, is)
 
 chosen_below : (o : Ordering) (rest : Option Data) (x e : Data) (n : ℕ) → match_ordering o rest (Some x) rest ≡ Some e → (rest ≡ Some e → depth e ≤ n) → depth e ≤ max (depth x) n
 chosen_below Less rest x e n is below = omega (arith, below is, le-max_right (depth x) n)
@@ -34,119 +39,147 @@ get_below key (string s) e is = absurd (cc)
 get_below key (array ds) e is = absurd (cc)
 get_below key (object ms) e is = omega (arith, member_below key ms e is)
 
-alone_below : (b : Bool) (x e : Data) → cond b (Some x) None ≡ Some e → depth e ≤ depth x
-alone_below true x e is = let same : x ≡ e = cc in omega (arith, ap depth same)
-alone_below false x e is = absurd (cc)
+members_below : (d : Data) (ms : Members) → as_object d ≡ Some ms → members_depth ms < depth d
+members_below null ms is = absurd (cc)
+members_below (boolean b) ms is = absurd (cc)
+members_below (number n) ms is = absurd (cc)
+members_below (string s) ms is = absurd (cc)
+members_below (array ds) ms is = absurd (cc)
+members_below (object os) ms is = let same : os ≡ ms = cc in omega (arith, ap members_depth same)
 
-only_below : (key : List ℕ) (d e : Data) → only key d ≡ Some e → depth e < depth d
-only_below key null e is = absurd (cc)
-only_below key (boolean b) e is = absurd (cc)
-only_below key (number n) e is = absurd (cc)
-only_below key (string s) e is = absurd (cc)
-only_below key (array ds) e is = absurd (cc)
-only_below key (object no_members) e is = absurd (cc)
-only_below key (object (member k x no_members)) e is = omega (arith, alone_below (bytes_eq k key) x e is, le-max_left (depth x) 0)
-only_below key (object (member k x (member l y ms))) e is = absurd (cc)
+one_below : (ms : Members) (m : List ℕ × Data) → only_one ms ≡ Some m → depth m.1 ≤ members_depth ms
+one_below no_members m is = absurd (cc)
+one_below (member key x no_members) m is = let same : (key, x) ≡ m = cc in omega (arith, ap (λ q. depth q.1) same, le-max_left (depth x) 0)
+one_below (member key x (member l y ms)) m is = absurd (cc)
 
--- two readers agree on what nests less
+sole_below : (d : Data) (m : List ℕ × Data) → sole_member d ≡ Some m → depth m.1 < depth d
+sole_below d m is =
+    let found = bound (as_object d) only_one m is in
+    omega (arith, members_below d found.0 found.1, one_below found.0 m found.2)
+
+items_below : (d : Data) (ds : Items) → as_array d ≡ Some ds → items_depth ds < depth d
+items_below null ds is = absurd (cc)
+items_below (boolean b) ds is = absurd (cc)
+items_below (number n) ds is = absurd (cc)
+items_below (string s) ds is = absurd (cc)
+items_below (array es) ds is = let same : es ≡ ds = cc in omega (arith, ap items_depth same)
+items_below (object ms) ds is = absurd (cc)
+
+two_below : (ds : Items) (p : Data × Data) → only_two ds ≡ Some p → (depth p.0 ≤ items_depth ds) × (depth p.1 ≤ items_depth ds)
+two_below no_items p is = absurd (cc)
+two_below (item a no_items) p is = absurd (cc)
+two_below (item a (item b no_items)) p is =
+    let same : (a, b) ≡ p = cc in (
+      omega (arith, ap (λ q. depth q.0) same, le-max_left (depth a) (max (depth b) 0)),
+      omega (arith, ap (λ q. depth q.1) same, le-max_right (depth a) (max (depth b) 0), le-max_left (depth b) 0),
+    )
+two_below (item a (item b (item c ds))) p is = absurd (cc)
+
+pair_below : (d : Data) (p : Data × Data) → pair_of d ≡ Some p → (depth p.0 < depth d) × (depth p.1 < depth d)
+pair_below d p is =
+    let found = bound (as_array d) only_two p is in
+    let less = items_below d found.0 found.1 in
+    let both = two_below found.0 p found.2 in
+    (omega (arith, less, both.0), omega (arith, less, both.1))
+
+-- ---- readers that agree on what nests less
+
 abbrev Agree : {A : Type 0} → (f g : Data → A) → ℕ → Type 0
 Agree f g n = (e : Data) → depth e < n → f e ≡ g e
 
-first_of_two : (a b : Data) → depth a < depth (array (item a (item b no_items)))
-first_of_two a b = omega (arith, le-max_left (depth a) (max (depth b) 0))
+nested_same : {A : Type 0} (step : (Data → Option A) → Data → Option A) → ((f g : Data → Option A) (d : Data) → Agree f g (depth d) → step f d ≡ step g d)
+    → (d : Data) (n m : ℕ) → depth d < n → depth d < m → nested step n d ≡ nested step m d
+unfolding nested
+nested_same step same d zero m a b = absurd (omega (arith, a))
+nested_same step same d (suc n) zero a b = absurd (omega (arith, b))
+nested_same step same d (suc n) (suc m) a b =
+    same (nested step n) (nested step m) d (λ e lt. nested_same step same e n m (omega (arith, lt, a)) (omega (arith, lt, b)))
 
-second_of_two : (a b : Data) → depth b < depth (array (item a (item b no_items)))
-second_of_two a b = omega (arith, le-max_right (depth a) (max (depth b) 0), le-max_left (depth b) 0)
+bind_same : {A B : Type 0} (found : Option A) (next other : A → Option B) → ((a : A) → found ≡ Some a → next a ≡ other a) → option_and_then next found ≡ option_and_then other found
+bind_same None next other h = refl
+bind_same (Some a) next other h = h a refl
+
+all_same : {A : Type 0} (f g : Data → Option A) (ds : Items) → ((e : Data) → depth e ≤ items_depth ds → f e ≡ g e) → all_of f ds ≡ all_of g ds
+all_same f g no_items h = refl
+all_same f g (item d ds) h =
+    let first : f d ≡ g d = h d (le-max_left (depth d) (items_depth ds)) in
+    rw (first, all_same f g ds (λ e le. h e (omega (arith, le, le-max_right (depth d) (items_depth ds))))) refl
+
+-- two tables have the same keys, and rules that agree on the content
+abbrev AreAlike : {A : Type 0} → List (List ℕ × (Data → Option A)) → List (List ℕ × (Data → Option A)) → Data → Type 0
+AreAlike [] [] d = Unit {0}
+AreAlike [] (q ∷ qs) d = ⊥
+AreAlike (p ∷ ps) [] d = ⊥
+AreAlike (p ∷ ps) (q ∷ qs) d = (p.0 ≡ q.0) × (p.1 d ≡ q.1 d) × AreAlike ps qs d
+
+keys_same : {A : Type 0} (ps qs : List (List ℕ × (Data → Option A))) (key : List ℕ) (d : Data) → AreAlike ps qs d → by_key ps key d ≡ by_key qs key d
+keys_same [] [] key d h = refl
+keys_same [] (q ∷ qs) key d h = absurd h
+keys_same (p ∷ ps) [] key d h = absurd h
+keys_same (p ∷ ps) (q ∷ qs) key d h = rw (h.0, h.1, keys_same ps qs key d h.2) refl
 
 -- ---- descriptions
 
 field_same : (f g : Data → Option Tree) (d : Data) → Agree f g (depth d) → field_of f d ≡ field_of g d
-field_same f g null h = refl
-field_same f g (boolean b) h = refl
-field_same f g (number n) h = refl
-field_same f g (string s) h = refl
-field_same f g (array no_items) h = refl
-field_same f g (array (item a no_items)) h = refl
-field_same f g (array (item a (item b no_items))) h = let e : f b ≡ g b = h b (second_of_two a b) in rw e refl
-field_same f g (array (item a (item b (item c ds)))) h = refl
-field_same f g (object ms) h = refl
-
-fields_same : (f g : Data → Option Tree) (ds : Items) → Agree f g (items_depth ds) → fields_of f ds ≡ fields_of g ds
-fields_same f g no_items h = refl
-fields_same f g (item d ds) h = rw (
-  field_same f g d (λ e lt. h e (omega (arith, lt, le-max_left (depth d) (items_depth ds)))),
-  fields_same f g ds (λ e lt. h e (omega (arith, lt, le-max_right (depth d) (items_depth ds)))),
-) refl
-
-listed_same : (f g : Data → Option Tree) (d : Data) → Agree f g (depth d) → option_and_then (fields_of f) (as_array d) ≡ option_and_then (fields_of g) (as_array d)
-listed_same f g null h = refl
-listed_same f g (boolean b) h = refl
-listed_same f g (number n) h = refl
-listed_same f g (string s) h = refl
-listed_same f g (array ds) h = fields_same f g ds (λ e lt. h e (omega (arith, lt)))
-listed_same f g (object ms) h = refl
-
-under_same : (f g : Data → Option Tree) (found : Option Data) → ((d : Data) → found ≡ Some d → Agree f g (depth d))
-    → option_and_then (fields_of f) (option_and_then as_array found) ≡ option_and_then (fields_of g) (option_and_then as_array found)
-under_same f g None h = refl
-under_same f g (Some d) h = listed_same f g d (h d refl)
+field_same f g d h =
+    bind_same (pair_of d) _ _ (λ p is. let held : f p.1 ≡ g p.1 = h p.1 (pair_below d p is).1 in rw held refl)
 
 struct_same : (f g : Data → Option Tree) (d : Data) → Agree f g (depth d) → struct_of f d ≡ struct_of g d
 unfolding struct_of
-struct_same f g d h = let e = under_same f g (get (codes "fields") d) (λ x is e lt. h e (omega (arith, lt, get_below (codes "fields") d x is))) in rw e refl
+struct_same f g d h =
+    let fields : Option Items = option_and_then as_array (get (codes "fields") d) in
+    let e : option_and_then (all_of (field_of f)) fields ≡ option_and_then (all_of (field_of g)) fields
+    = bind_same fields (all_of (field_of f)) (all_of (field_of g)) (
+    λ ds is. let found = bound (get (codes "fields") d) as_array ds is in
+    let less = items_below found.0 ds found.2 in
+    let below = get_below (codes "fields") d found.0 found.1 in
+    all_same (field_of f) (field_of g) ds (λ x le. field_same f g x (λ y lt. h y (omega (arith, lt, le, less, below))))
+    )
+    in rw e refl
 
-result_same : (f g : Data → Option Tree) (d : Data) → Agree f g (depth d) → result_of f d ≡ result_of g d
-unfolding result_of
-result_same f g null h = refl
-result_same f g (boolean b) h = refl
-result_same f g (number n) h = refl
-result_same f g (string s) h = refl
-result_same f g (array no_items) h = refl
-result_same f g (array (item a no_items)) h = refl
-result_same f g (array (item a (item b no_items))) h = let p : f a ≡ g a = h a (first_of_two a b) in let q : f b ≡ g b = h b (second_of_two a b) in rw (p, q) refl
-result_same f g (array (item a (item b (item c ds)))) h = refl
-result_same f g (object ms) h = refl
+pair_same : (f g : Data → Option Tree) (d : Data) → Agree f g (depth d) → pair_at f d ≡ pair_at g d
+pair_same f g d h =
+    bind_same (pair_of d) _ _ (
+    λ p is. let both = pair_below d p is in
+    let first : f p.0 ≡ g p.0 = h p.0 both.0 in
+    let second : f p.1 ≡ g p.1 = h p.1 both.1 in
+    rw (first, second) refl
+    )
 
-by_same : (f g : Data → Option Tree) (p : Option Primitive) (maybe both fields : Option Data) (n : ℕ) → Agree f g n → ((d : Data) → maybe ≡ Some d → depth d < n)
-    → ((d : Data) → both ≡ Some d → depth d < n) → ((d : Data) → fields ≡ Some d → depth d < n) → desc_by f p maybe both fields ≡ desc_by g p maybe both fields
-by_same f g (Some p) maybe both fields n h a b c = refl
-by_same f g None (Some d) both fields n h a b c = ap (option_map option) (h d (a d refl))
-by_same f g None None (Some d) fields n h a b c = result_same f g d (λ e lt. h e (omega (arith, lt, b d refl)))
-by_same f g None None None (Some d) n h a b c = struct_same f g d (λ e lt. h e (omega (arith, lt, c d refl)))
-by_same f g None None None None n h a b c = refl
+form_same : (f g : Data → Option Tree) (key : List ℕ) (d : Data) (n : ℕ) → Agree f g n → depth d < n → desc.form_of f key d ≡ desc.form_of g key d
+unfolding desc.form_of
+form_same f g key d n h lt =
+    let inside : Agree f g (depth d) = λ e less. h e (omega (arith, less, lt)) in
+    let two : (make : Tree → Tree → Tree) → desc.two_sided f make d ≡ desc.two_sided g make d = λ make. ap (option_map (λ p. make p.0 p.1)) (pair_same f g d inside) in
+    keys_same (desc.forms f) (desc.forms g) key d (
+      refl,
+      ap (option_map _) (h d lt),
+      (refl, two _, (refl, struct_same f g d inside, tt)),
+    )
 
 step_same : (f g : Data → Option Tree) (d : Data) → Agree f g (depth d) → desc_step f d ≡ desc_step g d
 unfolding desc_step
-step_same f g d h =
-    by_same f g (prim_of d) (only (codes "option") d) (only (codes "result") d) (only (codes "struct") d) (depth d) h (only_below (codes "option") d) (only_below (codes "result") d)
-    (only_below (codes "struct") d)
+step_same f g null h = refl
+step_same f g (boolean b) h = refl
+step_same f g (number n) h = refl
+step_same f g (string s) h = refl
+step_same f g (array ds) h = refl
+step_same f g (object ms) h =
+    bind_same (sole_member (object ms)) _ _ (λ m is. form_same f g m.0 m.1 (depth (object ms)) h (sole_below (object ms) m is))
 
 pub description_law : (d : Data) (n m : ℕ) → depth d < n → depth d < m → desc_at n d ≡ desc_at m d
-unfolding desc_at
-description_law d zero m a b = absurd (omega (arith, a))
-description_law d (suc n) zero a b = absurd (omega (arith, b))
-description_law d (suc n) (suc m) a b = step_same (desc_at n) (desc_at m) d (λ e lt. description_law e n m (omega (arith, lt, a)) (omega (arith, lt, b)))
+description_law d n m a b = nested_same desc_step step_same d n m a b
 
 -- ---- values
 
-values_same : (f g : Data → Option Plain) (ds : Items) → ((e : Data) → depth e ≤ items_depth ds → f e ≡ g e) → values_of f ds ≡ values_of g ds
-values_same f g no_items h = refl
-values_same f g (item d ds) h =
-    let p : f d ≡ g d = h d (le-max_left (depth d) (items_depth ds)) in
-    rw (p, values_same f g ds (λ e le. h e (omega (arith, le, le-max_right (depth d) (items_depth ds))))) refl
-
-variant_same_by : (f g : Data → Option Plain) (a b c : Option Data) (n : ℕ) → Agree f g n → ((d : Data) → a ≡ Some d → depth d < n) → ((d : Data) → b ≡ Some d → depth d < n)
-    → ((d : Data) → c ≡ Some d → depth d < n) → variant_by f a b c ≡ variant_by g a b c
-variant_same_by f g (Some d) b c n h p q r = ap (option_map (variant sort.OfResult true)) (h d (p d refl))
-variant_same_by f g None (Some d) c n h p q r = ap (option_map (variant sort.OfResult false)) (h d (q d refl))
-variant_same_by f g None None (Some d) n h p q r = ap (option_map (variant sort.OfOption true)) (h d (r d refl))
-variant_same_by f g None None None n h p q r = refl
-
-variant_same : (f g : Data → Option Plain) (d : Data) → Agree f g (depth d) → variant_of f d ≡ variant_of g d
-unfolding variant_of
-variant_same f g d h =
-    variant_same_by f g (only (codes "ok") d) (only (codes "err") d) (only (codes "some") d) (depth d) h (only_below (codes "ok") d) (only_below (codes "err") d)
-    (only_below (codes "some") d)
+variant_same : (f g : Data → Option Plain) (key : List ℕ) (d : Data) → f d ≡ g d → value.form_of f key d ≡ value.form_of g key d
+unfolding value.form_of
+variant_same f g key d h =
+    keys_same (value.forms f) (value.forms g) key d (
+      refl,
+      ap (option_map _) h,
+      (refl, ap (option_map _) h, (refl, ap (option_map _) h, tt)),
+    )
 
 value_same : (f g : Data → Option Plain) (d : Data) → Agree f g (depth d) → value_step f d ≡ value_step g d
 unfolding value_step
@@ -154,11 +187,9 @@ value_same f g null h = refl
 value_same f g (boolean b) h = refl
 value_same f g (number n) h = refl
 value_same f g (string s) h = refl
-value_same f g (array ds) h = ap (option_map list) (values_same f g ds (λ e le. h e (omega (arith, le))))
-value_same f g (object ms) h = variant_same f g (object ms) h
+value_same f g (array ds) h = ap (option_map (λ vs. list (plains_of vs))) (all_same f g ds (λ e le. h e (omega (arith, le))))
+value_same f g (object ms) h =
+    bind_same (sole_member (object ms)) _ _ (λ m is. variant_same f g m.0 m.1 (h m.1 (sole_below (object ms) m is)))
 
 pub value_law : (d : Data) (n m : ℕ) → depth d < n → depth d < m → value_at n d ≡ value_at m d
-unfolding value_at
-value_law d zero m a b = absurd (omega (arith, a))
-value_law d (suc n) zero a b = absurd (omega (arith, b))
-value_law d (suc n) (suc m) a b = value_same (value_at n) (value_at m) d (λ e lt. value_law e n m (omega (arith, lt, a)) (omega (arith, lt, b)))
+value_law d n m a b = nested_same value_step value_same d n m a b

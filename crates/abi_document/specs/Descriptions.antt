@@ -1,33 +1,39 @@
 -- Which trees of JSON are descriptions, and of what type.
-use Rattle.std.specs.Prelude.{ℕ, zero, suc, List, [], ◌∷◌, not, Option, Some, None, option_map, codes, if◌then◌else◌}
-use Rattle.serde_json.specs.Data.{Data, Items, no_items, item}
+use Rattle.std.specs.Prelude.{ℕ, List, [], ◌∷◌, not, Option, Some, None, option_map, codes, if◌then◌else◌}
+use Rattle.std.specs.Global.{Box}
+use Rattle.serde_json.specs.Data.{Data, Items, null, boolean, number, string, array, object}
 use Rattle.serde_json.specs.Find.{get, as_array}
+use Rattle.abi_layout.specs.declared.desc.Desc.{Desc}
+use Rattle.abi_layout.specs.declared.desc.Field.{Field}
 use Rattle.abi_layout.specs.declared.prim.Primitive.{Primitive}
 use Rattle.abi_layout.specs.declared.prim.Primitive.TheVariants as primitive
 use Rattle.abi_layout.specs.Trees as trees
-use Rattle.abi_layout.specs.Trees.{Tree, Branches, Named, Label}
-use Rattle.abi_document.specs.Forms.{◌>>=◌, has_only, is_text, only, pair_of, name_of, long_of, word_of}
+use Rattle.abi_layout.specs.Trees.{Tree, Named, Label, branches_of}
+use Rattle.abi_document.specs.Forms.{◌>>=◌, nested, by_name, by_key, has_only, sole_member, under, pair_of, all_of, name_of, long_of, word_of}
+
+abbrev pub primitives : List (List ℕ × Primitive)
+primitives =
+    (codes "()", primitive.Unit)
+    ∷ (codes "bool", primitive.Bool)
+    ∷ (codes "u8", primitive.U8)
+    ∷ (codes "u16", primitive.U16)
+    ∷ (codes "u32", primitive.U32)
+    ∷ (codes "u64", primitive.U64)
+    ∷ (codes "u128", primitive.U128)
+    ∷ (codes "i8", primitive.I8)
+    ∷ (codes "i16", primitive.I16)
+    ∷ (codes "i32", primitive.I32)
+    ∷ (codes "i64", primitive.I64)
+    ∷ (codes "i128", primitive.I128)
+    ∷ (codes "NonZeroU8", primitive.NonZeroU8)
+    ∷ (codes "NonZeroU16", primitive.NonZeroU16)
+    ∷ (codes "NonZeroU32", primitive.NonZeroU32)
+    ∷ (codes "NonZeroU64", primitive.NonZeroU64)
+    ∷ (codes "NonZeroU128", primitive.NonZeroU128) ∷ []
 
 -- a primitive by its name
-unfoldable pub prim_of : Data → Option Primitive
-prim_of d =
-    if is_text (codes "()") d then Some primitive.Unit
-    else (if is_text (codes "bool") d then Some primitive.Bool
-    else (if is_text (codes "u8") d then Some primitive.U8
-    else (if is_text (codes "u16") d then Some primitive.U16
-    else (if is_text (codes "u32") d then Some primitive.U32
-    else (if is_text (codes "u64") d then Some primitive.U64
-    else (if is_text (codes "u128") d then Some primitive.U128
-    else (if is_text (codes "i8") d then Some primitive.I8
-    else (if is_text (codes "i16") d then Some primitive.I16
-    else (if is_text (codes "i32") d then Some primitive.I32
-    else (if is_text (codes "i64") d then Some primitive.I64
-    else (if is_text (codes "i128") d then Some primitive.I128
-    else (if is_text (codes "NonZeroU8") d then Some primitive.NonZeroU8
-    else (if is_text (codes "NonZeroU16") d then Some primitive.NonZeroU16
-    else (if is_text (codes "NonZeroU32") d then Some primitive.NonZeroU32
-    else (if is_text (codes "NonZeroU64") d then Some primitive.NonZeroU64
-    else (if is_text (codes "NonZeroU128") d then Some primitive.NonZeroU128 else None))))))))))))))))
+unfoldable pub prim_named : List ℕ → Option Primitive
+prim_named name = by_name primitives name
 
 -- the version of a declaration, which is 0 where none is said
 abbrev pub version_of : Option Data → Option ℕ
@@ -42,6 +48,16 @@ align_of (Some d) = option_map Some (long_of d)
 abbrev pub struct_keys : List (List ℕ)
 struct_keys = codes "name" ∷ codes "module" ∷ codes "fields" ∷ codes "version" ∷ codes "align" ∷ []
 
+-- a field as plain data; the description in a box, and those in two
+abbrev pub named : Field → Named
+named f = (f.name, trees.tree f.ty)
+
+abbrev pub boxed : Box Desc → Tree
+boxed b = trees.tree b.value
+
+abbrev pub both_boxed : Box Desc × Box Desc → Tree × Tree
+both_boxed p = (boxed p.0, boxed p.1)
+
 -- `tree` tells the descriptions inside
 module _ (tree : Data → Option Tree) where
   -- an array of a name and a description
@@ -52,41 +68,52 @@ module _ (tree : Data → Option Tree) where
     held ← tree pair.1
     Some (name, held)
 
-  abbrev pub fields_of : Items → Option Branches
-  fields_of no_items = Some trees.none
-  fields_of (item d ds) = do
-    first ← field_of d
-    more ← fields_of ds
-    Some (trees.field first.0 first.1 more)
+  abbrev pub fields_of : Items → Option (List Named)
+  fields_of ds = all_of field_of ds
 
   unfoldable pub struct_of : Data → Option Tree
   struct_of d = if not (has_only struct_keys d) then None else do
-    name ← get (codes "name") d >>= name_of
-    module_name ← get (codes "module") d >>= name_of
+    name ← under (codes "name") name_of d
+    module_name ← under (codes "module") name_of d
     version ← version_of (get (codes "version") d)
     align ← align_of (get (codes "align") d)
-    fields ← get (codes "fields") d >>= as_array >>= fields_of
-    Some (trees.struct (record { name = name; module_name = module_name; version = version }) fields align)
+    fields ← under (codes "fields") as_array d >>= fields_of
+    Some (trees.struct (record { name = name; module_name = module_name; version = version }) (branches_of fields) align)
 
-  unfoldable pub result_of : Data → Option Tree
-  result_of d = do
+  -- an array of two descriptions
+  abbrev pub pair_at : Data → Option (Tree × Tree)
+  pair_at d = do
     pair ← pair_of d
-    ok ← tree pair.0
-    err ← tree pair.1
-    Some (trees.result ok err)
+    first ← tree pair.0
+    second ← tree pair.1
+    Some (first, second)
+
+  -- what is made of one description, or of two
+  abbrev pub one_sided : (Tree → Tree) → Data → Option Tree
+  one_sided make d = option_map make (tree d)
+
+  abbrev pub two_sided : (Tree → Tree → Tree) → Data → Option Tree
+  two_sided make d = option_map (λ pair. make pair.0 pair.1) (pair_at d)
+
+  -- by the one key of an object
+  abbrev pub forms : List (List ℕ × (Data → Option Tree))
+  forms =
+      (codes "option", one_sided trees.option)
+      ∷ (codes "result", two_sided trees.result)
+      ∷ (codes "struct", struct_of) ∷ []
+
+  unfoldable pub form_of : List ℕ → Data → Option Tree
+  form_of key content = by_key forms key content
 
   -- a primitive's name, or an object with one key that says what it is
-  abbrev pub desc_by : Option Primitive → Option Data → Option Data → Option Data → Option Tree
-  desc_by (Some p) option_in result_in struct_in = Some (trees.prim p)
-  desc_by None (Some d) result_in struct_in = option_map trees.option (tree d)
-  desc_by None None (Some d) struct_in = result_of d
-  desc_by None None None (Some d) = struct_of d
-  desc_by None None None None = None
-
   unfoldable pub desc_step : Data → Option Tree
-  desc_step d = desc_by (prim_of d) (only (codes "option") d) (only (codes "result") d) (only (codes "struct") d)
+  desc_step null = None
+  desc_step (boolean b) = None
+  desc_step (number n) = None
+  desc_step (string s) = option_map trees.prim (prim_named s)
+  desc_step (array ds) = None
+  desc_step (object ms) = sole_member (object ms) >>= (λ member. form_of member.0 member.1)
 
 -- a description that nests fewer than that many levels
-unfoldable pub desc_at : ℕ → Data → Option Tree
-desc_at zero d = None
-desc_at (suc levels) d = desc_step (desc_at levels) d
+abbrev pub desc_at : ℕ → Data → Option Tree
+desc_at levels d = nested desc_step levels d

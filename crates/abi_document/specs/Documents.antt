@@ -1,13 +1,14 @@
 -- Which trees of JSON are documents, and the job that each tells.
 use Rattle.std.specs.Prelude.{◌≡◌, ℕ, List, [], ◌∷◌, not, Option, Some, None, codes, if◌then◌else◌}
+use Rattle.std.specs.Str.{bytes_eq}
 use Rattle.serde_json.specs.Data.{Data}
-use Rattle.serde_json.specs.Find.{get}
+use Rattle.serde_json.specs.Find.{as_str}
 use Rattle.abi_num.specs.declared.target.Target.{Target}
 use Rattle.abi_num.specs.Target.{named}
 use Rattle.abi_layout.specs.Trees.{Tree, tree}
 use Rattle.abi_pack.specs.Plain.{Plain}
 use Rattle.abi_pack.specs.View.{plain}
-use Rattle.abi_document.specs.Forms.{◌>>=◌, has_only, is_text}
+use Rattle.abi_document.specs.Forms.{◌>>=◌, has_only, under}
 use Rattle.abi_document.specs.Descriptions.{desc_at}
 use Rattle.abi_document.specs.Values.{value_at}
 use Rattle.abi_document.specs.declared.command.Command.{Command}
@@ -39,20 +40,29 @@ HasNoEdits (work.Pack desc value edits) = edits ≡ []
 abbrev pub levels : ℕ
 levels = 128
 
+-- a target by its name
 abbrev pub target_of : Data → Option Target
-target_of d = if is_text (codes "le64") d then named (codes "le64") else None
+target_of d = do
+  name ← as_str d
+  if bytes_eq name (codes "le64") then named name else None
 
-abbrev pub pack_keys : List (List ℕ)
-pack_keys = codes "target" ∷ codes "desc" ∷ codes "value" ∷ []
+-- the keys that a document of the command may have
+abbrev pub keys_of : Command → List (List ℕ)
+keys_of Pack = codes "target" ∷ codes "desc" ∷ codes "value" ∷ []
 
--- an object with exactly the keys `target`, `desc` and `value`
-abbrev pub pack_job : Data → Option PlainJob
-pack_job d = if not (has_only pack_keys d) then None else do
-  target ← get (codes "target") d >>= target_of
-  desc ← get (codes "desc") d >>= desc_at levels
-  value ← get (codes "value") d >>= value_at levels
-  Some (record { target = target; task = pack desc value })
+abbrev pub pack_work : Data → Option Task
+pack_work d = do
+  desc ← under (codes "desc") (desc_at levels) d
+  value ← under (codes "value") (value_at levels) d
+  Some (pack desc value)
 
--- the job of a document of the command
+-- what a document of the command asks for, beside its target
+abbrev pub work_in : Command → Data → Option Task
+work_in Pack d = pack_work d
+
+-- the job of a document of the command: an object with its keys alone, a target and what is to be done
 unfoldable pub job_of : Command → Data → Option PlainJob
-job_of Pack d = pack_job d
+job_of command d = if not (has_only (keys_of command) d) then None else do
+  target ← under (codes "target") target_of d
+  task ← work_in command d
+  Some (record { target = target; task = task })

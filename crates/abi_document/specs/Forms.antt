@@ -1,16 +1,44 @@
 -- Forms of JSON that documents are made of.
-use Rattle.std.specs.Prelude.{ℕ, List, length, Bool, true, false, ◌&&◌, nat_le, nat_lt, Option, Some, None, option_and_then, if◌then◌else◌, ◌^◌}
+use Rattle.std.specs.Prelude.{◌≡◌, ℕ, zero, suc, List, [], ◌∷◌, length, Bool, true, false, ◌&&◌, nat_le, nat_lt, Option, Some, None, option_map, option_and_then, if◌then◌else◌, ◌^◌, String, string_bytes}
 use Rattle.std.specs.List.{list_all, list_any}
+use Rattle.std.specs.Option.{option_map_or}
 use Rattle.std.specs.Str.{bytes_eq}
-use Rattle.serde_json.specs.Data.{Data, null, boolean, number, string, array, object, Items, no_items, item, Members, no_members, member}
-use Rattle.serde_json.specs.Find.{as_u64}
+use Rattle.std.specs.declared.alloc.Global.{Global}
+use Rattle.serde_json.specs.Data.{Data, Items, no_items, item, Members, no_members, member}
+use Rattle.serde_json.specs.Find.{get, as_array, as_number, as_object, as_str, as_u64}
 
 infixl 10 ◌>>=◌
 abbrev pub ◌>>=◌ : {A B : Type 0} → Option A → (A → Option B) → Option B
 found >>= next = option_and_then next found
 
+-- the answer is what is found, seen as plain data
+abbrev pub Tells : {R A : Type 0} → (R → A) → Option A → Option R → Type 0
+Tells view found answer = option_map view answer ≡ found
+
+-- what the step reads of a tree whose parts nest fewer than that many levels
+unfoldable pub nested : {A : Type 0} → ((Data → Option A) → Data → Option A) → ℕ → Data → Option A
+nested step zero d = None
+nested step (suc levels) d = step (nested step levels) d
+
+-- ---- tables by name
+
+-- what the table has under the name
+abbrev pub by_name : {A : Type 0} → List (List ℕ × A) → List ℕ → Option A
+by_name [] name = None
+by_name (row ∷ rows) name = if bytes_eq name row.0 then Some row.1 else by_name rows name
+
+-- what the table's rule for the key makes of the content
+abbrev pub by_key : {A : Type 0} → List (List ℕ × (Data → Option A)) → List ℕ → Data → Option A
+by_key [] key content = None
+by_key (row ∷ rows) key content = if bytes_eq key row.0 then row.1 content else by_key rows key content
+
+-- ---- objects
+
 abbrev pub is_listed : List (List ℕ) → List ℕ → Bool
 is_listed names key = list_any (λ name. bytes_eq name key) names
+
+abbrev pub all_listed : List (List ℕ) → List (String Global) → Bool
+all_listed names keys = list_all (λ key. is_listed names (string_bytes key)) keys
 
 abbrev pub keys_listed : List (List ℕ) → Members → Bool
 keys_listed names no_members = true
@@ -18,70 +46,55 @@ keys_listed names (member key d ms) = is_listed names key && keys_listed names m
 
 -- an object, each of whose keys is one of these
 abbrev pub has_only : List (List ℕ) → Data → Bool
-has_only names null = false
-has_only names (boolean b) = false
-has_only names (number n) = false
-has_only names (string s) = false
-has_only names (array ds) = false
-has_only names (object ms) = keys_listed names ms
+has_only names d = option_map_or (keys_listed names) (as_object d) false
 
-abbrev pub is_text : List ℕ → Data → Bool
-is_text text null = false
-is_text text (boolean b) = false
-is_text text (number n) = false
-is_text text (string s) = bytes_eq s text
-is_text text (array ds) = false
-is_text text (object ms) = false
+abbrev pub only_one : Members → Option (List ℕ × Data)
+only_one no_members = None
+only_one (member key content no_members) = Some (key, content)
+only_one (member key content (member other d ms)) = None
 
--- what an object with this key alone holds
-abbrev pub only_member : List ℕ → Members → Option Data
-only_member key no_members = None
-only_member key (member k d no_members) = if bytes_eq k key then Some d else None
-only_member key (member k d (member l e ms)) = None
+-- the key and the content of an object with one key
+abbrev pub sole_member : Data → Option (List ℕ × Data)
+sole_member d = as_object d >>= only_one
 
-abbrev pub only : List ℕ → Data → Option Data
-only key null = None
-only key (boolean b) = None
-only key (number n) = None
-only key (string s) = None
-only key (array ds) = None
-only key (object ms) = only_member key ms
+-- what is read of what an object has under the key
+abbrev pub under : {A : Type 0} → List ℕ → (Data → Option A) → Data → Option A
+under key read d = get key d >>= read
+
+-- ---- arrays
+
+abbrev pub only_two : Items → Option (Data × Data)
+only_two no_items = None
+only_two (item a no_items) = None
+only_two (item a (item b no_items)) = Some (a, b)
+only_two (item a (item b (item c ds))) = None
 
 -- the two of an array of two
-abbrev pub two_items : Items → Option (Data × Data)
-two_items no_items = None
-two_items (item a no_items) = None
-two_items (item a (item b no_items)) = Some (a, b)
-two_items (item a (item b (item c ds))) = None
-
 abbrev pub pair_of : Data → Option (Data × Data)
-pair_of null = None
-pair_of (boolean b) = None
-pair_of (number n) = None
-pair_of (string s) = None
-pair_of (array ds) = two_items ds
-pair_of (object ms) = None
+pair_of d = as_array d >>= only_two
+
+-- what each item is read as, in order, where each can be read
+abbrev pub all_of : {A : Type 0} → (Data → Option A) → Items → Option (List A)
+all_of read no_items = Some []
+all_of read (item d ds) = do
+  first ← read d
+  more ← all_of read ds
+  Some (first ∷ more)
+
+-- ---- texts and numbers
 
 -- at most 256 bytes from space to `~`
 abbrev pub is_name : List ℕ → Bool
 is_name s = nat_le (length s) 256 && list_all (λ c. nat_le 32 c && nat_le c 126) s
 
 abbrev pub name_of : Data → Option (List ℕ)
-name_of null = None
-name_of (boolean b) = None
-name_of (number n) = None
-name_of (string s) = if is_name s then Some s else None
-name_of (array ds) = None
-name_of (object ms) = None
+name_of d = do
+  s ← as_str d
+  if is_name s then Some s else None
 
 -- a JSON integer of 64 bits without sign
 abbrev pub long_of : Data → Option ℕ
-long_of null = None
-long_of (boolean b) = None
-long_of (number n) = as_u64 n
-long_of (string s) = None
-long_of (array ds) = None
-long_of (object ms) = None
+long_of d = as_number d >>= as_u64
 
 -- of 32 bits
 abbrev pub word_of : Data → Option ℕ

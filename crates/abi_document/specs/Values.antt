@@ -1,46 +1,50 @@
 -- Which trees of JSON are values, and which.
-use Rattle.std.specs.Prelude.{ℕ, zero, suc, List, true, false, Option, Some, None, option_map, codes, if◌then◌else◌}
+use Rattle.std.specs.Prelude.{ℕ, List, [], ◌∷◌, Bool, true, false, Option, Some, option_map, codes, if◌then◌else◌}
+use Rattle.std.specs.Global.{Box}
 use Rattle.std.specs.Str.{bytes_eq}
-use Rattle.serde_json.specs.Data.{Data, null, boolean, number, string, array, object, Items, no_items, item}
+use Rattle.serde_json.specs.Data.{Data, null, boolean, number, string, array, object}
 use Rattle.serde_json.specs.Find.{as_integer}
 use Rattle.abi_pack.specs.Plain as plain
-use Rattle.abi_pack.specs.Plain.{Plain, Plains, unit, list, variant, end, more}
-use Rattle.abi_pack.specs.declared.part.Sort.TheVariants as sort
-use Rattle.abi_document.specs.Forms.{◌>>=◌, only}
+use Rattle.abi_pack.specs.Plain.{Plain, unit, list, variant}
+use Rattle.abi_pack.specs.View as view
+use Rattle.abi_pack.specs.View.{plains_of}
+use Rattle.abi_layout.specs.declared.part.Sort.{Sort}
+use Rattle.abi_layout.specs.declared.part.Sort.TheVariants as sort
+use Rattle.abi_pack.specs.declared.value.Value.{Value}
+use Rattle.abi_document.specs.Forms.{◌>>=◌, nested, by_key, sole_member, all_of}
 use Rattle.abi_document.specs.Integers.{integer_of, integer_text}
 
 -- `None`, or an integer
 abbrev pub text_value : List ℕ → Option Plain
 text_value text = if bytes_eq text (codes "none") then Some (variant sort.OfOption false unit) else integer_text text
 
+-- the value in a box
+abbrev pub boxed : Box Value → Plain
+boxed b = view.plain b.value
+
 -- `value` tells the values inside
 module _ (value : Data → Option Plain) where
-  abbrev pub values_of : Items → Option Plains
-  values_of no_items = Some end
-  values_of (item d ds) = do
-    first ← value d
-    rest ← values_of ds
-    Some (more first rest)
+  abbrev pub variant_of : Sort → Bool → Data → Option Plain
+  variant_of names first d = option_map (variant names first) (value d)
 
-  -- an object with one key that says which variant it is
-  abbrev pub variant_by : Option Data → Option Data → Option Data → Option Plain
-  variant_by (Some d) err_in some_in = option_map (variant sort.OfResult true) (value d)
-  variant_by None (Some d) some_in = option_map (variant sort.OfResult false) (value d)
-  variant_by None None (Some d) = option_map (variant sort.OfOption true) (value d)
-  variant_by None None None = None
+  -- by the one key of an object
+  abbrev pub forms : List (List ℕ × (Data → Option Plain))
+  forms =
+      (codes "ok", variant_of sort.OfResult true)
+      ∷ (codes "err", variant_of sort.OfResult false)
+      ∷ (codes "some", variant_of sort.OfOption true) ∷ []
 
-  unfoldable pub variant_of : Data → Option Plain
-  variant_of d = variant_by (only (codes "ok") d) (only (codes "err") d) (only (codes "some") d)
+  unfoldable pub form_of : List ℕ → Data → Option Plain
+  form_of key content = by_key forms key content
 
   unfoldable pub value_step : Data → Option Plain
   value_step null = Some unit
   value_step (boolean b) = Some (plain.boolean b)
   value_step (number n) = option_map integer_of (as_integer n)
   value_step (string s) = text_value s
-  value_step (array ds) = option_map list (values_of ds)
-  value_step (object ms) = variant_of (object ms)
+  value_step (array ds) = option_map (λ vs. list (plains_of vs)) (all_of value ds)
+  value_step (object ms) = sole_member (object ms) >>= (λ member. form_of member.0 member.1)
 
 -- a value that nests fewer than that many levels
-unfoldable pub value_at : ℕ → Data → Option Plain
-value_at zero d = None
-value_at (suc levels) d = value_step (value_at levels) d
+abbrev pub value_at : ℕ → Data → Option Plain
+value_at levels d = nested value_step levels d

@@ -1,14 +1,13 @@
 //! Descriptions of types, from trees of JSON.
 
-ghost use Rattle.std.specs.Prelude.{◌≡◌, IfOk, option_and_then, option_map};
-ghost use Rattle.serde_json.specs.Find.{get, as_array};
+ghost use Rattle.std.specs.Prelude.{◌≡◌, IfOk, map, option_map};
+ghost use Rattle.serde_json.specs.Find.{as_array};
 ghost use Rattle.serde_json.specs.View.{view, items_view};
-ghost use Rattle.abi_layout.specs.Trees as trees;
-ghost use Rattle.abi_layout.specs.Trees.{tree, branches};
-ghost use Rattle.abi_document.specs.Forms.{name_of};
-ghost use Rattle.abi_document.specs.Descriptions.{prim_of, version_of, align_of, field_of, fields_of, struct_of, result_of, desc_step, desc_at};
+ghost use Rattle.abi_layout.specs.Trees.{tree};
+ghost use Rattle.abi_document.specs.Forms.{Tells, name_of, under};
+ghost use Rattle.abi_document.specs.Descriptions.{named, boxed, both_boxed, prim_named, version_of, align_of, field_of, fields_of, struct_of, pair_at, form_of, desc_step, desc_at};
 
-use crate::forms::{has_only, long_of, name_of, only, pair_of, word_of};
+use crate::forms::{has_only, long_of, name_of, pair_of, sole_member, word_of};
 use abi_layout::{Desc, Field, FieldDescs, Prim};
 use abi_num::{OutOfMemory, Text};
 use serde_json::Value as Json;
@@ -16,9 +15,9 @@ use std::alloc::Global;
 
 /// A description that nests fewer than that many levels; `None` exactly where the tree is none.
 #[cycle(reading)]
-#[tactic(auto, using(crate::proofs::Levels::desc_at_none, crate::proofs::Levels::desc_at_above))]
+#[tactic(auto, using(crate::proofs::Levels::no_level, crate::proofs::Levels::one_level))]
 pub fn desc_at(alloc: Global, levels: usize, json: &Json) -> Result<Option<Desc>, OutOfMemory>
-    ensures { IfOk result (λ desc. option_map tree desc ≡ desc_at levels (view json.now)) }
+    ensures { IfOk result (Tells tree (desc_at levels (view json.now))) }
 {
     if levels == 0 {
         return Ok(None);
@@ -30,29 +29,81 @@ pub fn desc_at(alloc: Global, levels: usize, json: &Json) -> Result<Option<Desc>
 #[cycle(reading)]
 #[tactic(auto, unfolding(crate::specs::Descriptions::desc_step))]
 fn desc_step(alloc: Global, levels: usize, json: &Json) -> Result<Option<Desc>, OutOfMemory>
-    ensures { IfOk result (λ desc. option_map tree desc ≡ desc_step (desc_at levels) (view json.now)) }
+    ensures { IfOk result (Tells tree (desc_step (desc_at levels) (view json.now))) }
 {
-    if let Some(primitive) = prim_of(json) {
-        return Ok(Some(Desc::Prim(primitive)));
+    match json {
+        Json::String(name) => Ok(prim_named(name.as_str()).map(Desc::Prim)),
+        Json::Object(_) => match sole_member(json) {
+            Some((key, content)) => form_of(alloc, levels, key, content),
+            None => Ok(None),
+        },
+        _ => Ok(None),
     }
-    if let Some(held) = only("option", json) {
-        return option_of(alloc, desc_at(alloc, levels, held)?);
+}
+
+/// A description, from the one key of an object and what it holds.
+#[cycle(reading)]
+#[tactic(auto, unfolding(crate::specs::Descriptions::form_of))]
+fn form_of(
+    alloc: Global,
+    levels: usize,
+    key: &str,
+    content: &Json,
+) -> Result<Option<Desc>, OutOfMemory>
+    ensures { IfOk result (Tells tree (form_of (desc_at levels) key.now (view content.now))) }
+{
+    match key {
+        "option" => {
+            let some = boxed_at(alloc, levels, content)?;
+            Ok(some.map(|some| Desc::Option { some }))
+        }
+        "result" => {
+            let pair = pair_at(alloc, levels, content)?;
+            Ok(pair.map(|(ok, err)| Desc::Result { ok, err }))
+        }
+        "struct" => struct_of(alloc, levels, content),
+        _ => Ok(None),
     }
-    if let Some(pair) = only("result", json) {
-        return result_of(alloc, levels, pair);
-    }
-    match only("struct", json) {
-        Some(declaration) => struct_of(alloc, levels, declaration),
+}
+
+/// A description in a box of its own.
+#[cycle(reading)]
+fn boxed_at(alloc: Global, levels: usize, json: &Json) -> Result<Option<Box<Desc>>, OutOfMemory>
+    ensures { IfOk result (Tells boxed (desc_at levels (view json.now))) }
+{
+    match desc_at(alloc, levels, json)? {
+        Some(desc) => Ok(Some(Box::new(alloc, desc)?)),
         None => Ok(None),
     }
 }
 
-/// A primitive by its name; `None` exactly where no primitive has it.
-#[tactic(auto, unfolding(crate::specs::Descriptions::prim_of))]
-fn prim_of(json: &Json) -> Option<Prim>
-    ensures { result ≡ prim_of (view json.now) }
+/// Two descriptions, from an array of them.
+#[cycle(reading)]
+fn pair_at(
+    alloc: Global,
+    levels: usize,
+    json: &Json,
+) -> Result<Option<(Box<Desc>, Box<Desc>)>, OutOfMemory>
+    ensures { IfOk result (Tells both_boxed (pair_at (desc_at levels) (view json.now))) }
 {
-    match json.as_str()? {
+    let Some((first, second)) = pair_of(json) else {
+        return Ok(None);
+    };
+    let Some(first) = boxed_at(alloc, levels, first)? else {
+        return Ok(None);
+    };
+    let Some(second) = boxed_at(alloc, levels, second)? else {
+        return Ok(None);
+    };
+    Ok(Some((first, second)))
+}
+
+/// A primitive by its name; `None` exactly where no primitive has it.
+#[tactic(auto, unfolding(crate::specs::Descriptions::prim_named))]
+fn prim_named(name: &str) -> Option<Prim>
+    ensures { result ≡ prim_named name.now }
+{
+    match name {
         "()" => Some(Prim::Unit),
         "bool" => Some(Prim::Bool),
         "u8" => Some(Prim::U8),
@@ -74,49 +125,11 @@ fn prim_of(json: &Json) -> Option<Prim>
     }
 }
 
-/// The option of a description, if there is one.
-fn option_of(alloc: Global, some: Option<Desc>) -> Result<Option<Desc>, OutOfMemory>
-    ensures { IfOk result (λ desc. option_map tree desc ≡ option_map trees.option (option_map tree some)) }
-{
-    let Some(some) = some else {
-        return Ok(None);
-    };
-    let some = Box::new(alloc, some)?;
-    Ok(Some(Desc::Option { some }))
-}
-
-/// A packed sum, from an array of its two descriptions.
-#[cycle(reading)]
-#[tactic(auto, unfolding(crate::specs::Descriptions::result_of))]
-fn result_of(alloc: Global, levels: usize, json: &Json) -> Result<Option<Desc>, OutOfMemory>
-    ensures { IfOk result (λ desc. option_map tree desc ≡ result_of (desc_at levels) (view json.now)) }
-{
-    let Some((ok, err)) = pair_of(json) else {
-        return Ok(None);
-    };
-    let Some(ok) = desc_at(alloc, levels, ok)? else {
-        return Ok(None);
-    };
-    let Some(err) = desc_at(alloc, levels, err)? else {
-        return Ok(None);
-    };
-    Ok(Some(result_desc(alloc, ok, err)?))
-}
-
-/// The packed sum of two descriptions.
-fn result_desc(alloc: Global, ok: Desc, err: Desc) -> Result<Desc, OutOfMemory>
-    ensures { IfOk result (λ desc. tree desc ≡ trees.result (tree ok) (tree err)) }
-{
-    let ok = Box::new(alloc, ok)?;
-    let err = Box::new(alloc, err)?;
-    Ok(Desc::Result { ok, err })
-}
-
 /// A struct, from its declaration.
 #[cycle(reading)]
 #[tactic(auto, unfolding(crate::specs::Descriptions::struct_of))]
 fn struct_of(alloc: Global, levels: usize, json: &Json) -> Result<Option<Desc>, OutOfMemory>
-    ensures { IfOk result (λ desc. option_map tree desc ≡ struct_of (desc_at levels) (view json.now)) }
+    ensures { IfOk result (Tells tree (struct_of (desc_at levels) (view json.now))) }
 {
     if !has_only(&["name", "module", "fields", "version", "align"], json) {
         return Ok(None);
@@ -152,14 +165,14 @@ fn struct_of(alloc: Global, levels: usize, json: &Json) -> Result<Option<Desc>, 
 
 /// The name under a key of an object; `None` exactly where there is none.
 fn name_under<'j>(key: &str, json: &'j Json) -> Option<&'j str>
-    ensures { option_map (λ name. name.now) result ≡ option_and_then name_of (get key.now (view json.now)) }
+    ensures { Tells (λ name. name.now) (under key.now name_of (view json.now)) result }
 {
     name_of(json.get(key)?)
 }
 
 /// The items of the array under a key of an object; `None` exactly where there is none.
 fn items_under<'j>(key: &str, json: &'j Json) -> Option<&'j [Json]>
-    ensures { option_map (λ items. items_view items.now) result ≡ option_and_then as_array (get key.now (view json.now)) }
+    ensures { Tells (λ a. items_view a.now) (under key.now as_array (view json.now)) result }
 {
     Some(json.get(key)?.as_array()?.as_slice())
 }
@@ -186,13 +199,13 @@ fn align_of(json: Option<&Json>) -> Option<Option<u64>>
 
 /// Fields in order; `None` exactly where an item is no field.
 #[cycle(reading)]
-#[tactic(auto, using(crate::proofs::Fields::go_on, crate::proofs::Fields::stop, crate::proofs::Fields::at_end))]
+#[tactic(auto, using(crate::proofs::Arrays::go_on, crate::proofs::Arrays::stop, crate::proofs::Arrays::at_end))]
 fn fields_of(
     alloc: Global,
     levels: usize,
     items: &[Json],
 ) -> Result<Option<FieldDescs>, OutOfMemory>
-    ensures { IfOk result (λ fields. option_map branches fields ≡ fields_of (desc_at levels) (items_view items.now)) }
+    ensures { IfOk result (Tells (map named) (fields_of (desc_at levels) (items_view items.now))) }
 {
     let mut fields = FieldDescs::new(alloc);
     for item in items {
@@ -207,7 +220,7 @@ fn fields_of(
 /// A field, from an array of its name and its description.
 #[cycle(reading)]
 fn field_of(alloc: Global, levels: usize, json: &Json) -> Result<Option<Field>, OutOfMemory>
-    ensures { IfOk result (λ field. option_map (λ f. (f.name, tree f.ty)) field ≡ field_of (desc_at levels) (view json.now)) }
+    ensures { IfOk result (Tells named (field_of (desc_at levels) (view json.now))) }
 {
     let Some((name, held)) = pair_of(json) else {
         return Ok(None);

@@ -1,21 +1,21 @@
-ghost use Rattle.std.specs.Prelude.{◌≡◌, IfOk, IfSome, codes, option_and_then, option_map};
-ghost use Rattle.serde_json.specs.Find.{get};
+ghost use Rattle.std.specs.Prelude.{◌≡◌, IfOk, IfSome, codes, map};
 ghost use Rattle.serde_json.specs.View.{view};
-ghost use Rattle.abi_layout.specs.Trees as trees;
+ghost use Rattle.abi_layout.specs.Trees.{tree};
 ghost use Rattle.abi_pack.specs.View.{plain};
+ghost use Rattle.abi_document.specs.Forms.{Tells, under};
 ghost use Rattle.abi_document.specs.Descriptions.{desc_at};
 ghost use Rattle.abi_document.specs.Values.{value_at};
-ghost use Rattle.abi_document.specs.Documents.{HasNoEdits, levels, target_of, pack_job, job_of, plain_job};
+ghost use Rattle.abi_document.specs.Documents.{HasNoEdits, levels, target_of, keys_of, pack_work, work_in, task_of, job_of, plain_job};
 
 use crate::command::Command;
 use crate::descriptions::desc_at;
-use crate::forms::{has_only, is_text};
+use crate::forms::has_only;
 use crate::job::{Job, Work};
 use crate::values::value_at;
 use abi_layout::Desc;
 use abi_num::{OutOfMemory, Target};
-use abi_pack::{Edits, Value as Given};
-use serde_json::Value;
+use abi_pack::{Edits, Value};
+use serde_json::Value as Json;
 use std::alloc::Global;
 
 /// One more than the levels that a document can nest.
@@ -23,72 +23,88 @@ const LEVELS: usize = 128;
 
 /// The job of a document of the command; `None` exactly where the tree is none.
 #[tactic(auto, unfolding(crate::specs::Documents::job_of))]
-pub fn job_of(alloc: Global, command: Command, tree: &Value) -> Result<Option<Job>, OutOfMemory>
-    ensures told { IfOk result (λ job. option_map plain_job job ≡ job_of command (view tree.now)) }
+pub fn job_of(alloc: Global, command: Command, json: &Json) -> Result<Option<Job>, OutOfMemory>
+    ensures told { IfOk result (Tells plain_job (job_of command (view json.now))) }
     ensures no_edits { IfOk result (λ job. IfSome job (λ j. HasNoEdits j.work)) }
 {
+    if !has_only(keys_of(command), json) {
+        return Ok(None);
+    }
+    let Some(target) = target_in(json) else {
+        return Ok(None);
+    };
+    let Some(work) = work_in(alloc, command, json)? else {
+        return Ok(None);
+    };
+    Ok(Some(Job { target, work }))
+}
+
+/// The keys that a document of the command may have.
+fn keys_of(command: Command) -> &'static [&'static str]
+    ensures { map (λ key. key.now) result.now ≡ keys_of command }
+{
     match command {
-        Command::Pack => pack_job(alloc, tree),
+        Command::Pack => &["target", "desc", "value"],
     }
 }
 
-/// The job of an object with exactly the keys `target`, `desc` and `value`; `None` exactly where the tree is none.
-fn pack_job(alloc: Global, tree: &Value) -> Result<Option<Job>, OutOfMemory>
-    ensures told { IfOk result (λ job. option_map plain_job job ≡ pack_job (view tree.now)) }
-    ensures no_edits { IfOk result (λ job. IfSome job (λ j. HasNoEdits j.work)) }
+/// What a document of the command asks for, beside its target.
+fn work_in(alloc: Global, command: Command, json: &Json) -> Result<Option<Work>, OutOfMemory>
+    ensures told { IfOk result (Tells task_of (work_in command (view json.now))) }
+    ensures no_edits { IfOk result (λ work. IfSome work HasNoEdits) }
 {
-    if !has_only(&["target", "desc", "value"], tree) {
-        return Ok(None);
+    match command {
+        Command::Pack => pack_work(alloc, json),
     }
-    let Some(target) = target_in(tree) else {
+}
+
+/// What a document of `pack` asks for.
+fn pack_work(alloc: Global, json: &Json) -> Result<Option<Work>, OutOfMemory>
+    ensures told { IfOk result (Tells task_of (pack_work (view json.now))) }
+    ensures no_edits { IfOk result (λ work. IfSome work HasNoEdits) }
+{
+    let Some(desc) = desc_in(alloc, json)? else {
         return Ok(None);
     };
-    let Some(desc) = desc_in(alloc, tree)? else {
-        return Ok(None);
-    };
-    let Some(value) = value_in(alloc, tree)? else {
+    let Some(value) = value_in(alloc, json)? else {
         return Ok(None);
     };
     let edits = Edits::new(alloc);
-    Ok(Some(Job {
-        target,
-        work: Work::Pack { desc, value, edits },
-    }))
+    Ok(Some(Work::Pack { desc, value, edits }))
 }
 
 /// The target under the key `target`; `None` exactly where there is none.
-fn target_in(tree: &Value) -> Option<Target>
-    ensures { result ≡ option_and_then target_of (get (codes "target") (view tree.now)) }
+fn target_in(json: &Json) -> Option<Target>
+    ensures { result ≡ under (codes "target") target_of (view json.now) }
 {
-    target_of(tree.get("target")?)
+    target_of(json.get("target")?)
 }
 
 /// A target by its name; `None` exactly where the tree is none.
-fn target_of(tree: &Value) -> Option<Target>
-    ensures { result ≡ target_of (view tree.now) }
+fn target_of(json: &Json) -> Option<Target>
+    ensures { result ≡ target_of (view json.now) }
 {
-    if is_text(tree, "le64") {
-        Target::named("le64")
-    } else {
-        None
+    match json.as_str()? {
+        "le64" => Target::named("le64"),
+        _ => None,
     }
 }
 
 /// The description under the key `desc`; `None` exactly where there is none.
-fn desc_in(alloc: Global, tree: &Value) -> Result<Option<Desc>, OutOfMemory>
-    ensures { IfOk result (λ desc. option_map trees.tree desc ≡ option_and_then (desc_at levels) (get (codes "desc") (view tree.now))) }
+fn desc_in(alloc: Global, json: &Json) -> Result<Option<Desc>, OutOfMemory>
+    ensures { IfOk result (Tells tree (under (codes "desc") (desc_at levels) (view json.now))) }
 {
-    match tree.get("desc") {
+    match json.get("desc") {
         Some(desc) => desc_at(alloc, LEVELS, desc),
         None => Ok(None),
     }
 }
 
 /// The value under the key `value`; `None` exactly where there is none.
-fn value_in(alloc: Global, tree: &Value) -> Result<Option<Given>, OutOfMemory>
-    ensures { IfOk result (λ value. option_map plain value ≡ option_and_then (value_at levels) (get (codes "value") (view tree.now))) }
+fn value_in(alloc: Global, json: &Json) -> Result<Option<Value>, OutOfMemory>
+    ensures { IfOk result (Tells plain (under (codes "value") (value_at levels) (view json.now))) }
 {
-    match tree.get("value") {
+    match json.get("value") {
         Some(value) => value_at(alloc, LEVELS, value),
         None => Ok(None),
     }

@@ -1,10 +1,10 @@
 //! Forms of JSON that documents are made of.
 
-ghost use Rattle.std.specs.Prelude.{◌≡◌, ◌&&◌, nat_le, map, option_map, string_bytes};
+ghost use Rattle.std.specs.Prelude.{◌≡◌, ◌&&◌, nat_le, map};
 ghost use Rattle.std.specs.List.{list_all};
 ghost use Rattle.std.specs.BTreeMap.{keys};
 ghost use Rattle.serde_json.specs.View.{view};
-ghost use Rattle.abi_document.specs.Forms.{is_listed, has_only, is_text, only, pair_of, is_name, name_of, long_of, word_of};
+ghost use Rattle.abi_document.specs.Forms.{Tells, is_listed, all_listed, has_only, sole_member, pair_of, is_name, name_of, long_of, word_of};
 
 use serde_json::{Map, Value as Json};
 
@@ -23,7 +23,7 @@ pub fn has_only(names: &[&str], json: &Json) -> bool
 
 /// Whether each key is one of these names.
 fn keys_listed(names: &[&str], members: &Map<String, Json>) -> bool
-    ensures { result ≡ list_all (λ key. is_listed (map (λ name. name.now) names.now) (string_bytes key)) (keys members.now) }
+    ensures { result ≡ all_listed (map (λ name. name.now) names.now) (keys members.now) }
 {
     members.keys().all(|key| is_listed(names, key.as_str()))
 }
@@ -35,35 +35,21 @@ fn is_listed(names: &[&str], key: &str) -> bool
     names.contains(&key)
 }
 
-/// Whether the tree is this text.
-pub fn is_text(json: &Json, text: &str) -> bool
-    ensures { result ≡ is_text text.now (view json.now) }
-{
-    match json.as_str() {
-        Some(found) => found == text,
-        None => false,
-    }
-}
-
-/// What an object with this key alone holds; `None` exactly where the tree is no such object.
-pub fn only<'t>(key: &str, json: &'t Json) -> Option<&'t Json>
-    ensures { option_map (λ held. view held.now) result ≡ only key.now (view json.now) }
+/// The key and the content of an object with one key; `None` exactly where the tree is no such object.
+pub fn sole_member(json: &Json) -> Option<(&str, &Json)>
+    ensures { Tells (λ m. (m.0.now, view m.1.now)) (sole_member (view json.now)) result }
 {
     let members = json.as_object()?;
     if members.len() != 1 {
         return None;
     }
-    let (name, held) = members.iter().next()?;
-    if name.as_str() == key {
-        Some(held)
-    } else {
-        None
-    }
+    let (key, content) = members.iter().next()?;
+    Some((key.as_str(), content))
 }
 
 /// The two of an array of two; `None` exactly where the tree is no such array.
 pub fn pair_of(json: &Json) -> Option<(&Json, &Json)>
-    ensures { option_map (λ pair. (view pair.0.now, view pair.1.now)) result ≡ pair_of (view json.now) }
+    ensures { Tells (λ pair. (view pair.0.now, view pair.1.now)) (pair_of (view json.now)) result }
 {
     match json.as_array()?.as_slice() {
         [first, second] => Some((first, second)),
@@ -73,7 +59,7 @@ pub fn pair_of(json: &Json) -> Option<(&Json, &Json)>
 
 /// A name: at most 256 bytes from space to `~`. `None` exactly where the tree is none.
 pub fn name_of(json: &Json) -> Option<&str>
-    ensures { option_map (λ name. name.now) result ≡ name_of (view json.now) }
+    ensures { Tells (λ name. name.now) (name_of (view json.now)) result }
 {
     let text = json.as_str()?;
     if is_name(text) { Some(text) } else { None }

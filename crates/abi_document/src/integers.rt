@@ -4,6 +4,7 @@ ghost use Rattle.std.specs.Prelude.{◌≡◌, option_map};
 ghost use Rattle.std.specs.List.{list_all};
 ghost use Rattle.std.specs.Char.{is_ascii_digit};
 ghost use Rattle.abi_pack.specs.View.{plain};
+ghost use Rattle.abi_document.specs.Forms.{Tells};
 ghost use Rattle.abi_document.specs.Integers.{is_plain, magnitude_of, signed_by, signed_text, integer_text, integer_of};
 
 use abi_pack::Value;
@@ -12,7 +13,7 @@ use abi_pack::Value;
 /// magnitude below 2^128. `None` exactly where it spells none.
 #[tactic(auto, unfolding(crate::specs::Integers::integer_text))]
 pub fn integer_text(text: &str) -> Option<Value>
-    ensures { option_map plain result ≡ integer_text text.now }
+    ensures { Tells plain (integer_text text.now) result }
 {
     if text == "0" {
         Some(signed_by(false, 0))
@@ -23,7 +24,7 @@ pub fn integer_text(text: &str) -> Option<Value>
 
 /// The integer of digits with a `-` in front, or without; `None` exactly where the text spells none.
 fn signed_text(text: &str) -> Option<Value>
-    ensures { option_map plain result ≡ signed_text text.now }
+    ensures { Tells plain (signed_text text.now) result }
 {
     match text.strip_prefix('-') {
         Some(digits) => signed_magnitude(true, digits),
@@ -33,7 +34,7 @@ fn signed_text(text: &str) -> Option<Value>
 
 /// The integer of digits, below 0 or not; `None` exactly where they spell no magnitude.
 fn signed_magnitude(negative: bool, digits: &str) -> Option<Value>
-    ensures { option_map plain result ≡ option_map (signed_by negative) (magnitude_of digits.now) }
+    ensures { Tells plain (option_map (signed_by negative) (magnitude_of digits.now)) result }
 {
     let magnitude = magnitude_of(digits)?;
     Some(signed_by(negative, magnitude))

@@ -1,16 +1,14 @@
 //! Values, from trees of JSON.
 
-ghost use Rattle.std.specs.Prelude.{◌≡◌, IfOk, true, false, option_map};
+ghost use Rattle.std.specs.Prelude.{IfOk, map, option_map};
 ghost use Rattle.serde_json.specs.Find.{as_integer};
-ghost use Rattle.serde_json.specs.Number as numbers;
 ghost use Rattle.serde_json.specs.View.{view, items_view, number_view};
-ghost use Rattle.abi_pack.specs.Plain.{list, variant};
-ghost use Rattle.abi_pack.specs.View.{plain, plains};
-ghost use Rattle.abi_pack.specs.declared.part.Sort.TheVariants as sort;
+ghost use Rattle.abi_pack.specs.View.{plain};
+ghost use Rattle.abi_document.specs.Forms.{Tells, all_of};
 ghost use Rattle.abi_document.specs.Integers.{integer_of};
-ghost use Rattle.abi_document.specs.Values.{text_value, values_of, variant_of, value_step, value_at};
+ghost use Rattle.abi_document.specs.Values.{boxed, text_value, form_of, value_step, value_at};
 
-use crate::forms::only;
+use crate::forms::sole_member;
 use crate::integers::{integer_of, integer_text};
 use abi_num::OutOfMemory;
 use abi_pack::{Value, Values};
@@ -19,9 +17,9 @@ use std::alloc::Global;
 
 /// A value that nests fewer than that many levels; `None` exactly where the tree is none.
 #[cycle(reading)]
-#[tactic(auto, using(crate::proofs::Levels::value_at_none, crate::proofs::Levels::value_at_above))]
+#[tactic(auto, using(crate::proofs::Levels::no_level, crate::proofs::Levels::one_level))]
 pub fn value_at(alloc: Global, levels: usize, json: &Json) -> Result<Option<Value>, OutOfMemory>
-    ensures { IfOk result (λ value. option_map plain value ≡ value_at levels (view json.now)) }
+    ensures { IfOk result (Tells plain (value_at levels (view json.now))) }
 {
     if levels == 0 {
         return Ok(None);
@@ -33,28 +31,31 @@ pub fn value_at(alloc: Global, levels: usize, json: &Json) -> Result<Option<Valu
 #[cycle(reading)]
 #[tactic(auto, unfolding(crate::specs::Values::value_step))]
 fn value_step(alloc: Global, levels: usize, json: &Json) -> Result<Option<Value>, OutOfMemory>
-    ensures { IfOk result (λ value. option_map plain value ≡ value_step (value_at levels) (view json.now)) }
+    ensures { IfOk result (Tells plain (value_step (value_at levels) (view json.now))) }
 {
     match json {
         Json::Null => Ok(Some(Value::Unit)),
         Json::Bool(truth) => Ok(Some(Value::Bool(*truth))),
         Json::Number(number) => Ok(number_value(number)),
         Json::String(text) => Ok(text_value(text.as_str())),
-        Json::Array(items) => Ok(list_of(values_of(alloc, levels, items.as_slice())?)),
-        Json::Object(_) => variant_of(alloc, levels, json),
+        Json::Array(items) => Ok(values_of(alloc, levels, items.as_slice())?.map(Value::List)),
+        Json::Object(_) => match sole_member(json) {
+            Some((key, content)) => form_of(alloc, levels, key, content),
+            None => Ok(None),
+        },
     }
 }
 
 /// An integer that JSON does not hold as a float; `None` exactly where it holds one.
 fn number_value(number: &Number) -> Option<Value>
-    ensures { option_map plain result ≡ option_map integer_of (as_integer (number_view number.now)) }
+    ensures { Tells plain (option_map integer_of (as_integer (number_view number.now))) result }
 {
     Some(integer_of(number.as_i128()?))
 }
 
 /// The value that a text tells: `None`, or an integer.
 fn text_value(text: &str) -> Option<Value>
-    ensures { option_map plain result ≡ text_value text.now }
+    ensures { Tells plain (text_value text.now) result }
 {
     if text == "none" {
         Some(Value::None)
@@ -63,18 +64,11 @@ fn text_value(text: &str) -> Option<Value>
     }
 }
 
-/// The list of these values, where each item was one.
-fn list_of(values: Option<Values>) -> Option<Value>
-    ensures { option_map plain result ≡ option_map list (option_map plains values) }
-{
-    Some(Value::List(values?))
-}
-
 /// Values in order; `None` exactly where an item is no value.
 #[cycle(reading)]
-#[tactic(auto, using(crate::proofs::Lists::go_on, crate::proofs::Lists::stop, crate::proofs::Lists::at_end))]
+#[tactic(auto, using(crate::proofs::Arrays::go_on, crate::proofs::Arrays::stop, crate::proofs::Arrays::at_end))]
 fn values_of(alloc: Global, levels: usize, items: &[Json]) -> Result<Option<Values>, OutOfMemory>
-    ensures { IfOk result (λ values. option_map plains values ≡ values_of (value_at levels) (items_view items.now)) }
+    ensures { IfOk result (Tells (map plain) (all_of (value_at levels) (items_view items.now))) }
 {
     let mut values = Values::new(alloc);
     for item in items {
@@ -86,35 +80,32 @@ fn values_of(alloc: Global, levels: usize, items: &[Json]) -> Result<Option<Valu
     Ok(Some(values))
 }
 
-/// A variant of a sum, from an object with one key that says which.
+/// A value, from the one key of an object and what it holds.
 #[cycle(reading)]
-#[tactic(auto, unfolding(crate::specs::Values::variant_of))]
-fn variant_of(alloc: Global, levels: usize, json: &Json) -> Result<Option<Value>, OutOfMemory>
-    ensures { IfOk result (λ value. option_map plain value ≡ variant_of (value_at levels) (view json.now)) }
+#[tactic(auto, unfolding(crate::specs::Values::form_of))]
+fn form_of(
+    alloc: Global,
+    levels: usize,
+    key: &str,
+    content: &Json,
+) -> Result<Option<Value>, OutOfMemory>
+    ensures { IfOk result (Tells plain (form_of (value_at levels) key.now (view content.now))) }
 {
-    if let Some(payload) = only("ok", json) {
-        let payload = boxed(alloc, value_at(alloc, levels, payload)?)?;
-        return Ok(payload.map(Value::Ok));
-    }
-    if let Some(payload) = only("err", json) {
-        let payload = boxed(alloc, value_at(alloc, levels, payload)?)?;
-        return Ok(payload.map(Value::Err));
-    }
-    match only("some", json) {
-        Some(payload) => {
-            let payload = boxed(alloc, value_at(alloc, levels, payload)?)?;
-            Ok(payload.map(Value::Some))
-        }
-        None => Ok(None),
+    match key {
+        "ok" => Ok(boxed_at(alloc, levels, content)?.map(Value::Ok)),
+        "err" => Ok(boxed_at(alloc, levels, content)?.map(Value::Err)),
+        "some" => Ok(boxed_at(alloc, levels, content)?.map(Value::Some)),
+        _ => Ok(None),
     }
 }
 
-/// The payload of a variant in a box of its own.
-fn boxed(alloc: Global, payload: Option<Value>) -> Result<Option<Box<Value>>, OutOfMemory>
-    ensures { IfOk result (λ held. option_map (λ b. plain b.value) held ≡ option_map plain payload) }
+/// A value in a box of its own.
+#[cycle(reading)]
+fn boxed_at(alloc: Global, levels: usize, json: &Json) -> Result<Option<Box<Value>>, OutOfMemory>
+    ensures { IfOk result (Tells boxed (value_at levels (view json.now))) }
 {
-    match payload {
-        Some(payload) => Ok(Some(Box::new(alloc, payload)?)),
+    match value_at(alloc, levels, json)? {
+        Some(value) => Ok(Some(Box::new(alloc, value)?)),
         None => Ok(None),
     }
 }

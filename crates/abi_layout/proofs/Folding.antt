@@ -157,13 +157,13 @@ folded_byte a (f ∷ fs) at k l =
     folded_byte (pair a f) fs at (pair_keeps a f k kf) p.1 ∙ regroup a f fs at k kf
 
 -- the first field starts at 0
-first_start : (f : Frame) → 0 < f.align → start_after 0 f ≡ 0
+pub first_start : (f : Frame) → 0 < f.align → start_after 0 f ≡ 0
 first_start f pos = let r = rounded 0 f.align pos in let e : f.align - 0 % f.align ≡ f.align = omega (arith, mod_zero f.align) in rw (e, mod_self f.align) refl
   where
     mod_zero : (n : ℕ) → 0 % n ≡ 0
     mod_zero n = omega arith
 
-unmoved_pairs : (ps : List Pair) → moved_pairs 0 ps ≡ ps
+pub unmoved_pairs : (ps : List Pair) → moved_pairs 0 ps ≡ ps
 unmoved_pairs [] = refl
 unmoved_pairs (p ∷ ps) =
     let here : p.0 + 0 ≡ p.0 = omega arith in

@@ -1,4 +1,5 @@
 pub mod Bytes
+pub mod Causes
 pub mod Faultless
 pub mod Folding
 pub mod Making
@@ -9,3 +10,5 @@ pub mod Steps
 pub mod Views
 pub mod WorkedRows
 pub mod Zeros
+pub mod PartViews
+pub mod Walking

@@ -1,15 +1,17 @@
--- What every supported target keeps, and that primitives are lawful there.
+-- What every supported target keeps, and that what has no parts is lawful there.
 use lib.Count.{ones}
-use Rattle.std.proofs.Common.{◌≡◌, ℕ, ◌%◌, Bool, true, ◌&&◌, List, [], ◌∷◌, eqb, leb, refl, inl, inr}
+use Rattle.std.proofs.Common.{◌≡◌, ℕ, ◌%◌, Bool, true, false, ◌&&◌, List, [], ◌∷◌, eqb, refl, inl, inr}
 use Rattle.std.specs.List.{list_all, list_any}
 use Rattle.std.proofs.lemmas.Bool.{and_parts, or_cases, eqb-true}
 use Rattle.abi_num.specs.Alignment.{is_alignment, IsAlignment}
 use Rattle.abi_num.specs.Target.{target_rows, same_bool, same_target, is_row}
 use Rattle.abi_num.specs.declared.target.Target.{Target}
 use Rattle.abi_det.specs.Frame.{IsLawful}
-use Rattle.abi_layout.specs.Prims.{prim_frame, unit_frame}
-use Rattle.abi_layout.specs.declared.prim.Primitive.{Primitive}
-use Rattle.abi_layout.specs.declared.prim.Primitive.TheVariants as the
+use Rattle.abi_layout.specs.Prims.{scalar_frame}
+use Rattle.abi_layout.specs.declared.scalar.Scalar.{Scalar}
+use Rattle.abi_layout.specs.declared.scalar.Scalar.TheVariants as scalars
+use Rattle.abi_layout.specs.declared.scalar.Width.{Width}
+use Rattle.abi_layout.specs.declared.scalar.Width.TheVariants as width
 
 -- both alignments are alignments that divide the integers' widths
 abbrev is_fit : ℕ → ℕ → Bool
@@ -46,30 +48,22 @@ row_fits t row =
     let ab = and_parts a b abc.0 in
     (ab.0, eqb-true (8 % t.u64_align) 0 ab.1, abc.1, eqb-true (16 % t.u128_align) 0 abcd.1)
 
-wide_lawful : (size align : ℕ) (free_rest : Bool) → is_alignment align ≡ true → leb size 1048576 ≡ true → size % align ≡ 0 → free_rest ≡ true
-    → (is_alignment align && leb size 1048576 && eqb (size % align) 0 && free_rest) ≡ true
-wide_lawful size align rest a b c d = rw (a, b, c, d) refl
+integer_lawful : (t : Target) (w : Width) (signed zero little : Bool) → is_row t ≡ true
+    → IsLawful (scalar_frame t (scalars.Int (record { width = w; signed = signed; zero = zero; little = little })))
+unfolding scalar_frame ones
+integer_lawful t width.One signed true little row = refl
+integer_lawful t width.One signed false little row = refl
+integer_lawful t width.Two signed true little row = refl
+integer_lawful t width.Two signed false little row = refl
+integer_lawful t width.Four signed true little row = refl
+integer_lawful t width.Four signed false little row = refl
+integer_lawful t width.Eight signed true little row = let f = row_fits t row in rw (f.0, f.1) refl
+integer_lawful t width.Eight signed false little row = let f = row_fits t row in rw (f.0, f.1) refl
+integer_lawful t width.Sixteen signed true little row = let f = row_fits t row in rw (f.2, f.3) refl
+integer_lawful t width.Sixteen signed false little row = let f = row_fits t row in rw (f.2, f.3) refl
 
-pub prim_lawful : (t : Target) (p : Primitive) → is_row t ≡ true → IsLawful (prim_frame t p)
-unfolding prim_frame ones
-prim_lawful t the.U64 row = let f = row_fits t row in rw (f.0, f.1) refl
-prim_lawful t the.I64 row = let f = row_fits t row in rw (f.0, f.1) refl
-prim_lawful t the.NonZeroU64 row = let f = row_fits t row in rw (f.0, f.1) refl
-prim_lawful t the.U128 row = let f = row_fits t row in rw (f.2, f.3) refl
-prim_lawful t the.I128 row = let f = row_fits t row in rw (f.2, f.3) refl
-prim_lawful t the.NonZeroU128 row = let f = row_fits t row in rw (f.2, f.3) refl
-prim_lawful t the.Unit row = refl
-prim_lawful t the.Bool row = refl
-prim_lawful t the.U8 row = refl
-prim_lawful t the.U16 row = refl
-prim_lawful t the.U32 row = refl
-prim_lawful t the.I8 row = refl
-prim_lawful t the.I16 row = refl
-prim_lawful t the.I32 row = refl
-prim_lawful t the.NonZeroU8 row = refl
-prim_lawful t the.NonZeroU16 row = refl
-prim_lawful t the.NonZeroU32 row = refl
-
-pub unit_lawful : IsLawful unit_frame
-unfolding ones
-unit_lawful = refl
+pub scalar_lawful : (t : Target) (c : Scalar) → is_row t ≡ true → IsLawful (scalar_frame t c)
+unfolding scalar_frame ones
+scalar_lawful t scalars.Unit row = refl
+scalar_lawful t scalars.Bool row = refl
+scalar_lawful t (scalars.Int i) row = integer_lawful t i.width i.signed i.zero i.little row

@@ -1,11 +1,10 @@
 -- Where no part has a fault, every part's frame keeps what the frames of layouts keep.
-use Rattle.std.proofs.Common.{◌≡◌, ℕ, ◌+◌, ◌-◌, ◌%◌, ◌<◌, ◌≤◌, Bool, true, false, ◌&&◌, List, [], ◌∷◌, ◌++◌, map, Option, Some, None, cond, leb, ltb, lit<, bit_or, refl, sym, ◌∙◌, add-zero, arith}
+use Rattle.std.proofs.Common.{◌≡◌, ℕ, ◌+◌, ◌-◌, ◌<◌, ◌≤◌, Bool, true, false, ◌&&◌, List, [], ◌∷◌, ◌++◌, map, Option, Some, None, cond, leb, ltb, lit<, bit_or, refl, arith}
 use Rattle.std.specs.List.{list_all}
 use Rattle.std.specs.Int.{next_multiple_of}
 use Rattle.std.proofs.lemmas.Nat.{or_lt}
 use Rattle.std.proofs.lemmas.List.{map-append}
 use Rattle.std.proofs.lemmas.List.Folds.{list_all-append}
-use Rattle.std.proofs.Math.Nat.{mod-eq_of_lt}
 use Rattle.std.proofs.lemmas.Bool.{and_parts, and_from, le-leb, ltb-true, lt-ltb}
 use Rattle.abi_bits.specs.Pairs.{Pair, are_rising, is_pattern, moved_pairs, are_below}
 use Rattle.abi_bits.specs.Mask.{mask_at, IsMask}
@@ -20,21 +19,23 @@ use Rattle.abi_det.specs.Written.{written_sum}
 use Rattle.abi_det.specs.Owed.{are_bytes, IsSound}
 use Rattle.abi_det.proofs.Chosen.{sound_sum}
 use Rattle.abi_det.proofs.Lawful.{parts as lawful_parts}
-use Rattle.abi_det.proofs.Sizes.{alignment_positive, rounded}
 use Rattle.abi_layout.specs.Builders.{start_after, whole_between, byte_from}
 use Rattle.abi_layout.specs.Structs.{positions, end_of, fields_align, fields_byte, fields_items, first_head, struct_frame}
 use Rattle.abi_layout.specs.declared.desc_error.DescError.{DescError}
-use Rattle.abi_layout.specs.declared.prim.Primitive.{Primitive}
-use Rattle.abi_layout.specs.declared.prim.Primitive.TheVariants as prim
-use Rattle.abi_layout.specs.Prims.{Niches, none, truth, not_zero, niches_of, width_of, niche_items, niche_head, prim_frame, unit_frame}
+use Rattle.abi_layout.specs.declared.scalar.Scalar.{Scalar}
+use Rattle.abi_layout.specs.declared.scalar.Scalar.TheVariants as scalars
+use Rattle.abi_layout.specs.declared.scalar.Width.{Width}
+use Rattle.abi_layout.specs.declared.scalar.Width.TheVariants as width
+use Rattle.abi_layout.specs.Prims.{scalar_of, width_size, zero_bytes, scalar_items, scalar_head, scalar_frame}
 use Rattle.abi_layout.specs.Folds.{AreLawful}
 use Rattle.abi_layout.specs.Trees as tree
-use Rattle.abi_layout.specs.Trees.{Tree, Branches, parts, parts_in}
+use Rattle.abi_layout.specs.Trees.{Tree, Branches, variant_parts, parts, parts_in}
 use Rattle.abi_layout.specs.Frames.{written_frame, written_frames}
-use Rattle.abi_layout.specs.Faults.{size_fault, align_fault, part_fault, part_fault_in}
+use Rattle.abi_layout.specs.Faults.{size_fault, align_fault, sum_fault, part_fault, part_fault_in}
 use Rattle.abi_layout.proofs.Faultless.{no_fault, small_enough, right_request, struct_lawful}
+use Rattle.abi_layout.proofs.Folding.{lawful_keeps, first_start, unmoved_pairs}
 use Rattle.abi_layout.proofs.Opening.{solid_parts}
-use Rattle.abi_layout.proofs.Rows.{prim_lawful, unit_lawful}
+use Rattle.abi_layout.proofs.Rows.{scalar_lawful}
 
 -- each of the frames is sound
 abbrev pub AreSound : List Frame → Type 0
@@ -148,27 +149,15 @@ fields_kept n end free (f ∷ fs) s h le =
     (and_from (list_all is_pattern (offered own)) (list_all is_pattern (offered more))
     (items_kept start n free f.forbids s.0.patterns a.0 le) (fields_kept n (start + f.size) free fs s.1 a.1 le))
 
-moved_pairs_none : (ps : List Pair) → moved_pairs 0 ps ≡ ps
-moved_pairs_none [] = refl
-moved_pairs_none (p ∷ ps) = rw (add-zero p.0, moved_pairs_none ps) refl
-
 lead_kept : (start : ℕ) (its more : List Item) (ps : List Pair) → start ≡ 0 → first_of (offered its) ≡ Some ps
     → first_of (offered (map (moved_item start) its ++ more)) ≡ Some ps
 lead_kept start [] more ps z e = absurd (cc)
-lead_kept start (it ∷ its) more ps z e = rw (z, offer_moved 0 it, moved_pairs_none (offer it)) e
-
-pub first_start : (f : Frame) → IsLawful f → start_after 0 f ≡ 0
-first_start f l =
-    let r = rounded 0 f.align (alignment_positive f.align (lawful_parts f l).align) in
-    let n : ℕ = next_multiple_of 0 f.align in
-    let lt : n < f.align = omega (arith, r.1) in
-    let same : n % f.align ≡ n = mod-eq_of_lt lt in
-    sym same ∙ r.2
+lead_kept start (it ∷ its) more ps z e = rw (z, offer_moved 0 it, unmoved_pairs (offer it)) e
 
 fields_lead : (fs : List Frame) → AreSound fs → (ps : List Pair) → first_head fs ≡ Some ps → first_of (offered (fields_items (positions 0 fs))) ≡ Some ps
 fields_lead [] s ps e = absurd (cc)
 fields_lead (f ∷ fs) s ps e =
-    lead_kept (start_after 0 f) f.forbids (fields_items (positions (start_after 0 f + f.size) fs)) ps (first_start f s.0.lawful) (s.0.leads ps e)
+    lead_kept (start_after 0 f) f.forbids (fields_items (positions (start_after 0 f + f.size) fs)) ps (first_start f (lawful_keeps f s.0.lawful).positive) (s.0.leads ps e)
 
 pub struct_sound : (fs : List Frame) (align : Option ℕ) → AreSound fs → IsLawful (struct_frame fs align) → IsSound (struct_frame fs align)
 unfolding struct_frame
@@ -185,61 +174,41 @@ struct_sound fs align s l =
       leads = fields_lead fs s;
     }
 
-lead_niche : (k : Niches) (n : ℕ) (ps : List Pair) → niche_head k n ≡ Some ps → first_of (offered (niche_items k n)) ≡ Some ps
-lead_niche none n ps e = absurd (cc)
-lead_niche truth n ps e = e
-lead_niche not_zero n ps e = e
+lead_scalar : (c : Scalar) (ps : List Pair) → scalar_head c ≡ Some ps → first_of (offered (scalar_items c)) ≡ Some ps
+lead_scalar scalars.Unit ps e = absurd (cc)
+lead_scalar scalars.Bool ps e = e
+lead_scalar (scalars.Int i) ps e = by_zero i.zero (zero_bytes (width_size i.width)) ps e where
+  by_zero : (zero : Bool) (zeros ps : List Pair) → cond zero None (Some zeros) ≡ Some ps → first_of (offered (cond zero [] (pattern zeros ∷ []))) ≡ Some ps
+  by_zero true zeros ps e = absurd (cc)
+  by_zero false zeros ps e = e
 
-prim_patterns : (p : Primitive) → list_all is_pattern (offered (niche_items (niches_of p) (width_of p))) ≡ true
-prim_patterns prim.Unit = refl
-prim_patterns prim.Bool = refl
-prim_patterns prim.U8 = refl
-prim_patterns prim.U16 = refl
-prim_patterns prim.U32 = refl
-prim_patterns prim.U64 = refl
-prim_patterns prim.U128 = refl
-prim_patterns prim.I8 = refl
-prim_patterns prim.I16 = refl
-prim_patterns prim.I32 = refl
-prim_patterns prim.I64 = refl
-prim_patterns prim.I128 = refl
-prim_patterns prim.NonZeroU8 = refl
-prim_patterns prim.NonZeroU16 = refl
-prim_patterns prim.NonZeroU32 = refl
-prim_patterns prim.NonZeroU64 = refl
-prim_patterns prim.NonZeroU128 = refl
+-- the pattern of zero bytes of each width
+zeros_kept : (w : Width) → (is_pattern (zero_bytes (width_size w)) ≡ true) × (are_bytes (zero_bytes (width_size w)) ≡ true)
+zeros_kept width.One = (refl, refl)
+zeros_kept width.Two = (refl, refl)
+zeros_kept width.Four = (refl, refl)
+zeros_kept width.Eight = (refl, refl)
+zeros_kept width.Sixteen = (refl, refl)
 
-prim_bytes : (p : Primitive) → list_all are_bytes (offered (niche_items (niches_of p) (width_of p))) ≡ true
-prim_bytes prim.Unit = refl
-prim_bytes prim.Bool = refl
-prim_bytes prim.U8 = refl
-prim_bytes prim.U16 = refl
-prim_bytes prim.U32 = refl
-prim_bytes prim.U64 = refl
-prim_bytes prim.U128 = refl
-prim_bytes prim.I8 = refl
-prim_bytes prim.I16 = refl
-prim_bytes prim.I32 = refl
-prim_bytes prim.I64 = refl
-prim_bytes prim.I128 = refl
-prim_bytes prim.NonZeroU8 = refl
-prim_bytes prim.NonZeroU16 = refl
-prim_bytes prim.NonZeroU32 = refl
-prim_bytes prim.NonZeroU64 = refl
-prim_bytes prim.NonZeroU128 = refl
+-- what each offered pattern keeps, where the pattern of zero bytes keeps it
+each_offered : (keeps : List Pair → Bool) (c : Scalar) → keeps ((0, 2) ∷ []) ≡ true → ((w : Width) → keeps (zero_bytes (width_size w)) ≡ true)
+    → list_all keeps (offered (scalar_items c)) ≡ true
+each_offered keeps scalars.Unit two zeros = refl
+each_offered keeps scalars.Bool two zeros = and_from (keeps ((0, 2) ∷ [])) true two refl
+each_offered keeps (scalars.Int i) two zeros = by_zero i.zero (zero_bytes (width_size i.width)) (zeros i.width) where
+  by_zero : (zero : Bool) (ps : List Pair) → keeps ps ≡ true → list_all keeps (offered (cond zero [] (pattern ps ∷ []))) ≡ true
+  by_zero true ps k = refl
+  by_zero false ps k = and_from (keeps ps) true k refl
 
-pub prim_sound : (target : Target) (p : Primitive) → is_row target ≡ true → IsSound (prim_frame target p)
-unfolding prim_frame
-prim_sound target p row = record {
-  lawful = prim_lawful target p row;
+scalar_sound : (target : Target) (c : Scalar) → is_row target ≡ true → IsSound (scalar_frame target c)
+unfolding scalar_frame
+scalar_sound target c row = record {
+  lawful = scalar_lawful target c row;
   mask = refl;
-  patterns = prim_patterns p;
-  bytes = prim_bytes p;
-  leads = lead_niche (niches_of p) (width_of p);
+  patterns = each_offered is_pattern c refl (λ w. (zeros_kept w).0);
+  bytes = each_offered are_bytes c refl (λ w. (zeros_kept w).1);
+  leads = lead_scalar c;
 }
-
-pub unit_sound : IsSound unit_frame
-unit_sound = record { lawful = unit_lawful; mask = refl; patterns = refl; bytes = refl; leads = λ ps e. absurd (cc) }
 
 sound_whole : (rules : Rules) (ok err : Frame) (part : ℕ) → IsSound ok → IsSound err → size_fault part (written_sum rules ok err) ≡ None → IsSound (written_sum rules ok err)
 unfolding written_sum
@@ -251,7 +220,7 @@ all_lawful (f ∷ fs) s = and_from (is_lawful f) (list_all is_lawful fs) s.0.law
 
 mutual
   pub part_sound : (rules : Rules) (target : Target) (first : ℕ) (t : Tree) → is_row target ≡ true → part_fault rules target first t ≡ None → IsSound (written_frame rules target t)
-  part_sound rules target first (tree.prim p) row h = prim_sound target p row
+  part_sound rules target first (tree.prim p) row h = scalar_sound target (scalar_of target p) row
   part_sound rules target first (tree.struct label fs align) row h =
       let whole : Option DescError = size_fault (first + parts_in fs) (written_frame rules target (tree.struct label fs align)) in
       let a = no_fault (part_fault_in rules target first fs) (or_else (align_fault (first + parts_in fs) align) whole) h in
@@ -260,16 +229,16 @@ mutual
       struct_sound (written_frames rules target fs) align s
       (struct_lawful (written_frames rules target fs) align (all_lawful (written_frames rules target fs) s) (right_request (first + parts_in fs) align b.0)
       (small_enough (first + parts_in fs) (struct_frame (written_frames rules target fs) align) b.1))
-  part_sound rules target first (tree.result ok err) row h =
-      let whole : Option DescError = size_fault (first + parts ok + parts err) (written_frame rules target (tree.result ok err)) in
-      let a = no_fault (part_fault rules target first ok) (or_else (part_fault rules target (first + parts ok) err) whole) h in
-      let b = no_fault (part_fault rules target (first + parts ok) err) whole a.1 in
-      sound_whole rules (written_frame rules target ok) (written_frame rules target err) (first + parts ok + parts err)
-      (part_sound rules target first ok row a.0) (part_sound rules target (first + parts ok) err row b.0) b.1
-  part_sound rules target first (tree.option some) row h =
-      let whole : Option DescError = size_fault (first + parts some) (written_frame rules target (tree.option some)) in
-      let a = no_fault (part_fault rules target first some) whole h in
-      sound_whole rules (written_frame rules target some) unit_frame (first + parts some) (part_sound rules target first some row a.0) unit_sound a.1
+  part_sound rules target first (tree.sum names side) row h =
+      let ok = written_frame rules target (side true) in
+      let err = written_frame rules target (side false) in
+      let number : ℕ = first + variant_parts names (parts (side true)) (parts (side false)) in
+      let whole : Option DescError = sum_fault rules number ok err in
+      let second : Option DescError = part_fault rules target (first + parts (side true)) (side false) in
+      let a = no_fault (part_fault rules target first (side true)) (or_else second whole) h in
+      let b = no_fault second whole a.1 in
+      sound_whole rules ok err number
+      (part_sound rules target first (side true) row a.0) (part_sound rules target (first + parts (side true)) (side false) row b.0) b.1
 
   pub parts_sound : (rules : Rules) (target : Target) (first : ℕ) (fs : Branches) → is_row target ≡ true → part_fault_in rules target first fs ≡ None
       → AreSound (written_frames rules target fs)
@@ -277,3 +246,7 @@ mutual
   parts_sound rules target first (tree.field name t fs) row h =
       let a = no_fault (part_fault rules target first t) (part_fault_in rules target (first + parts t) fs) h in
       (part_sound rules target first t row a.0, parts_sound rules target (first + parts t) fs row a.1)
+
+pub parts_lawful : (rules : Rules) (target : Target) (first : ℕ) (fs : Branches) → is_row target ≡ true → part_fault_in rules target first fs ≡ None
+    → AreLawful (written_frames rules target fs)
+parts_lawful rules target first fs row h = all_lawful (written_frames rules target fs) (parts_sound rules target first fs row h)

@@ -17,10 +17,10 @@ use Rattle.abi_layout.specs.Structs.{end_of, struct_frame}
 use Rattle.abi_layout.specs.Folds.{folded, opened, closed_by, AreLawful}
 use Rattle.abi_num.specs.Target.{is_row}
 use Rattle.abi_num.specs.declared.target.Target.{Target}
-use Rattle.abi_layout.specs.declared.prim.Primitive.{Primitive}
-use Rattle.abi_layout.specs.Prims.{width_of, align_of, niches_of, niche_items, niche_head, niche_count, prim_frame}
+use Rattle.abi_layout.specs.declared.scalar.Scalar.{Scalar}
+use Rattle.abi_layout.specs.Prims.{align_of, scalar_size, scalar_items, scalar_head, scalar_count, scalar_frame}
 use Rattle.abi_layout.specs.Trees.{Tree, parts}
-use Rattle.abi_layout.proofs.Rows.{prim_lawful}
+use Rattle.abi_layout.proofs.Rows.{scalar_lawful}
 use Rattle.abi_layout.specs.Faults.{IsFault, part_fault, desc_fault, size_fault, align_fault, struct_fault, sum_fault}
 use Rattle.abi_layout.proofs.Folding.{same_frame, all_parts, end_least, first_end, lawful_keeps, fold_is_struct}
 use Rattle.abi_layout.proofs.Faultless.{right_request, closed_by_lawful, struct_end}
@@ -121,14 +121,14 @@ then_parts rules target t e le = let n : ltb 4096 (parts t) ≡ false = le-ltb 4
 pub faultless : (rules : Rules) (target : Target) (t : Tree) → is_row target ≡ true → parts t ≤ 4096 → part_fault rules target 0 t ≡ None → desc_fault rules target t ≡ None
 faultless rules target t e le none = then_parts rules target t e le ∙ none
 
--- a primitive made of its parts
-pub prim_made : (t : Target) (p : Primitive) (made : Frame) (size : ℕ) → is_row t ≡ true → size ≡ width_of p → made.size ≡ size → made.align ≡ align_of t size → made.free ≡ []
-    → made.forbids ≡ niche_items (niches_of p) (width_of p) → made.head ≡ niche_head (niches_of p) (width_of p) → made.niches ≡ niche_count (niches_of p) → made.indirections ≡ false
-    → IsLawful made × (made ≡ prim_frame t p)
-unfolding prim_frame
-prim_made t p made size row q a b c d e h k =
-    let same : made ≡ prim_frame t p = same_frame made (prim_frame t p) (a ∙ q) (rw q at b) c d e h k in
-    (subst IsLawful (sym same) (prim_lawful t p row), same)
+-- the frame of what has no parts, made of its parts
+pub scalar_made : (t : Target) (c : Scalar) (made : Frame) (size : ℕ) → is_row t ≡ true → size ≡ scalar_size c → made.size ≡ size → made.align ≡ align_of t size → made.free ≡ []
+    → made.forbids ≡ scalar_items c → made.head ≡ scalar_head c → made.niches ≡ scalar_count c → made.indirections ≡ false
+    → IsLawful made × (made ≡ scalar_frame t c)
+unfolding scalar_frame
+scalar_made t c made size row q a b f d e h k =
+    let same : made ≡ scalar_frame t c = same_frame made (scalar_frame t c) (a ∙ q) (rw q at b) f d e h k in
+    (subst IsLawful (sym same) (scalar_lawful t c row), same)
 
 pub no_fields : (fs : List Frame) → length fs ≡ 0 → fs ≡ []
 no_fields [] e = refl

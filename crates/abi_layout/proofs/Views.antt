@@ -1,10 +1,12 @@
 -- The plain tree of a description, by variant.
 use Rattle.std.proofs.Common.{◌≡◌, ℕ, suc, ◌+◌, ◌<◌, List, ◌∷◌, Option, length, get_or, drop, refl, sym, ap, ◌∙◌, arith, drop-cons, rules}
+use Rattle.std.specs.declared.boxed.Box.{Box}
+use Rattle.std.specs.declared.alloc.Global.{Global}
 use Rattle.abi_layout.specs.declared.prim.Primitive.{Primitive}
-use Rattle.abi_layout.specs.declared.desc.Desc.{the_lemmas}
+use Rattle.abi_layout.specs.declared.desc.Desc.{Desc, the_lemmas}
 use Rattle.abi_layout.specs.declared.desc.Desc.TheVariants as desc
 use Rattle.abi_layout.specs.declared.desc.Field.{Field}
-use Rattle.abi_layout.specs.Trees.{tree, branches, prim, struct, field}
+use Rattle.abi_layout.specs.Trees.{tree, branches, prim, struct, result, option, field}
 
 pub tree_prim : (p : Primitive) → tree (desc.Prim p) ≡ prim p
 tree_prim p = search (rules, the_lemmas)
@@ -12,6 +14,12 @@ tree_prim p = search (rules, the_lemmas)
 pub tree_struct : (name module_name : List ℕ) (version : ℕ) (fs : List Field) (align : Option ℕ)
     → tree (desc.Struct name module_name version fs align) ≡ struct (record { name = name; module_name = module_name; version = version }) (branches fs) align
 tree_struct name module_name version fs align = search (rules, the_lemmas)
+
+pub tree_result : (ok err : Box Desc Global) → tree (desc.Result ok err) ≡ result (tree ok.value) (tree err.value)
+tree_result ok err = search (rules, the_lemmas)
+
+pub tree_option : (some : Box Desc Global) → tree (desc.Option some) ≡ option (tree some.value)
+tree_option some = search (rules, the_lemmas)
 
 pub branches_at : (fs : List Field) (i : ℕ) (x : Field) → i < length fs → x ≡ get_or fs i x → branches (drop i fs) ≡ field x.name (tree x.ty) (branches (drop (i + 1) fs))
 branches_at fs i x lt q =

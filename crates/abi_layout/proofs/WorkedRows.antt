@@ -1,18 +1,20 @@
 -- Frames of small types, worked out by hand.
-use Rattle.std.proofs.Common.{◌≡◌, refl, ℕ, [], ◌∷◌, true, false, Some, None}
+use Rattle.std.proofs.Common.{◌≡◌, refl, ℕ, List, [], ◌∷◌, map, true, false, Some, None}
 use Rattle.abi_num.specs.declared.target.Target.{Target}
 use Rattle.abi_bits.specs.Mask.{entries_below}
-use Rattle.abi_bits.specs.Forbidden.{pattern, range}
+use Rattle.abi_bits.specs.Forbidden.{Item, pattern, range}
+use Rattle.abi_bits.specs.declared.saturating_add_value.SaturatingAddValue.{SaturatingAddValue}
 use Rattle.abi_bits.specs.declared.saturating_add_value.SaturatingAddValue.TheVariants as count
 use Rattle.abi_det.specs.Frame.{Frame}
 use Rattle.abi_det.specs.Offers.{One, offer_at, first_offer}
 use Rattle.abi_det.specs.Written.{written_placement, written_sum, refusals_below}
 use Rattle.abi_layout.specs.Builders.{after, pair, rounded_to, closed, closed_at, overlaid, repeated}
 use Rattle.abi_layout.specs.Structs.{struct_frame}
-use Rattle.abi_layout.specs.Prims.{prim_frame}
+use Rattle.abi_layout.specs.Prims.{scalar_frame, prim_frame}
 use Rattle.abi_layout.specs.Trees.{Tree, Label, prim, struct, result, option, none, field}
 use Rattle.abi_layout.specs.Frames.{written_frame}
 use Rattle.abi_layout.specs.Faults.{desc_fault}
+use Rattle.abi_layout.specs.declared.prim.Primitive.{Primitive}
 use Rattle.abi_layout.specs.declared.prim.Primitive.TheVariants as the
 use Rattle.abi_layout.specs.declared.desc_error.DescError.TheVariants as fault
 
@@ -75,8 +77,45 @@ word_or_byte : overlaid (plain 4 4) (plain 1 1) ≡ plain 4 4
 unfolding overlaid plain
 word_or_byte = refl
 
+-- what the layout of a primitive says: its size and alignment, the forbidden items, and their count
+record Row : Type 0 where
+  size : ℕ
+  align : ℕ
+  forbids : List Item
+  niches : SaturatingAddValue
+
+row : Primitive → Row
+row p = let f : Frame = prim_frame le64 p in record { size = f.size; align = f.align; forbids = f.forbids; niches = f.niches }
+
+-- n bytes aligned to n, of which none is forbidden
+whole : ℕ → Row
+whole n = record { size = n; align = n; forbids = []; niches = count.B0 }
+
+-- n bytes aligned to n, which are not 0 at all of the offsets
+not_zero : ℕ → List ℕ → Row
+not_zero n offsets = record { size = n; align = n; forbids = pattern (map (λ at. (at, 0)) offsets) ∷ []; niches = count.B1 }
+
+empty_and_truth : map row (the.Unit ∷ the.Bool ∷ [])
+    ≡ record { size = 0; align = 1; forbids = []; niches = count.B0 } ∷ record { size = 1; align = 1; forbids = range 0 2 255 ∷ []; niches = count.Saturator } ∷ []
+unfolding row scalar_frame le64
+empty_and_truth = refl
+
+unsigned_integers : map row (the.U8 ∷ the.U16 ∷ the.U32 ∷ the.U64 ∷ the.U128 ∷ []) ≡ map whole (1 ∷ 2 ∷ 4 ∷ 8 ∷ 16 ∷ [])
+unfolding row whole scalar_frame le64
+unsigned_integers = refl
+
+signed_integers : map row (the.I8 ∷ the.I16 ∷ the.I32 ∷ the.I64 ∷ the.I128 ∷ []) ≡ map whole (1 ∷ 2 ∷ 4 ∷ 8 ∷ 16 ∷ [])
+unfolding row whole scalar_frame le64
+signed_integers = refl
+
+integers_but_zero : map row (the.NonZeroU8 ∷ the.NonZeroU16 ∷ the.NonZeroU32 ∷ the.NonZeroU64 ∷ the.NonZeroU128 ∷ [])
+    ≡ not_zero 1 (0 ∷ []) ∷ not_zero 2 (0 ∷ 1 ∷ []) ∷ not_zero 4 (0 ∷ 1 ∷ 2 ∷ 3 ∷ []) ∷ not_zero 8 (0 ∷ 1 ∷ 2 ∷ 3 ∷ 4 ∷ 5 ∷ 6 ∷ 7 ∷ [])
+    ∷ not_zero 16 (0 ∷ 1 ∷ 2 ∷ 3 ∷ 4 ∷ 5 ∷ 6 ∷ 7 ∷ 8 ∷ 9 ∷ 10 ∷ 11 ∷ 12 ∷ 13 ∷ 14 ∷ 15 ∷ []) ∷ []
+unfolding row not_zero scalar_frame le64
+integers_but_zero = refl
+
 old_word : prim_frame le32o the.U64 ≡ plain 8 4
-unfolding prim_frame plain le32o
+unfolding scalar_frame plain le32o
 old_word = refl
 
 one_niche : pair (plain 1 1) non_zero_byte
@@ -102,18 +141,18 @@ pair_tree = struct label (field [] (prim the.U8) (field [] (prim the.NonZeroU16)
 
 byte_and_word : written_frame One le64 pair_tree
     ≡ record { size = 4; align = 2; free = (1, 255) ∷ []; forbids = pattern ((2, 0) ∷ (3, 0) ∷ []) ∷ []; head = None; niches = count.Saturator; indirections = false }
-unfolding struct_frame prim_frame entries_below pair_tree le64 label
+unfolding struct_frame scalar_frame entries_below pair_tree le64 label
 byte_and_word = refl
 
 tagged_bytes : written_frame One le64 (result (result (prim the.U8) (prim the.U8)) (prim the.U8))
     ≡ record (plain 2 1) { free = (0, 252) ∷ [] }
-unfolding written_sum written_placement first_offer offer_at entries_below refusals_below prim_frame plain le64 lib.Count.count_trailing_zeros
+unfolding written_sum written_placement first_offer offer_at entries_below refusals_below scalar_frame plain le64 lib.Count.count_trailing_zeros
 tagged_bytes = refl
 
 -- the second field's request is refused: it is part 3, after the three parts before it
 ill_formed : desc_fault One le64 (struct label (field [] (option (prim the.Bool)) (field [] (struct label (field [] (prim the.U8) none) (Some 3)) none)) None)
     ≡ Some (fault.IllFormed 3)
-unfolding desc_fault label written_sum written_placement first_offer offer_at entries_below refusals_below prim_frame le64 lib.Count.ones
+unfolding desc_fault label written_sum written_placement first_offer offer_at entries_below refusals_below scalar_frame le64 lib.Count.ones
 ill_formed = refl
 
 bad_target : desc_fault One (record { little = true; pointer = 3; u64_align = 8; u128_align = 16 }) (prim the.U8) ≡ Some fault.BadTarget

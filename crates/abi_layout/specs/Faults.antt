@@ -1,5 +1,5 @@
 -- The first fault of a description on a target: in post-order, of each part first its form, then its size.
-use Rattle.std.specs.Prelude.{◌≡◌, ◌≢◌, ℕ, ◌+◌, List, not, nat_lt, Option, Some, None, if◌then◌else◌}
+use Rattle.std.specs.Prelude.{◌≡◌, ◌≢◌, ℕ, ◌+◌, List, true, false, not, nat_lt, Option, Some, None, if◌then◌else◌}
 use Rattle.abi_num.specs.Alignment.{is_alignment}
 use Rattle.abi_num.specs.Target.{is_row}
 use Rattle.abi_num.specs.declared.target.Target.{Target}
@@ -8,9 +8,8 @@ use Rattle.abi_det.specs.Frame.{Frame}
 use Rattle.abi_layout.specs.declared.desc_error.DescError.{DescError}
 use Rattle.abi_layout.specs.declared.desc_error.DescError.TheVariants as fault
 use Rattle.abi_det.specs.Written.{written_sum}
-use Rattle.abi_layout.specs.Prims.{unit_frame}
 use Rattle.abi_layout.specs.Structs.{struct_frame}
-use Rattle.abi_layout.specs.Trees.{Tree, Branches, prim, struct, result, option, none, field, parts, parts_in}
+use Rattle.abi_layout.specs.Trees.{Tree, Branches, prim, struct, sum, none, field, variant_parts, parts, parts_in}
 use Rattle.abi_layout.specs.Frames.{written_frame, written_frames}
 
 -- a part's size passes the greatest size
@@ -41,13 +40,11 @@ abbrev mutual
   part_fault rules target first (struct label fs align) =
       or_else (part_fault_in rules target first fs)
       (struct_fault (first + parts_in fs) (written_frames rules target fs) align)
-  part_fault rules target first (result ok err) =
-      or_else (part_fault rules target first ok)
-      (or_else (part_fault rules target (first + parts ok) err)
-      (sum_fault rules (first + parts ok + parts err) (written_frame rules target ok) (written_frame rules target err)))
-  part_fault rules target first (option some) =
-      or_else (part_fault rules target first some)
-      (sum_fault rules (first + parts some) (written_frame rules target some) unit_frame)
+  part_fault rules target first (sum names side) =
+      or_else (part_fault rules target first (side true))
+      (or_else (part_fault rules target (first + parts (side true)) (side false))
+      (sum_fault rules (first + variant_parts names (parts (side true)) (parts (side false)))
+      (written_frame rules target (side true)) (written_frame rules target (side false))))
 
   pub part_fault_in : Rules → Target → ℕ → Branches → Option DescError
   part_fault_in rules target first none = None
@@ -59,3 +56,7 @@ unfoldable pub desc_fault : Rules → Target → Tree → Option DescError
 desc_fault rules target t =
     if not (is_row target) then Some fault.BadTarget
     else (if nat_lt 4096 (parts t) then Some fault.TooManyParts else part_fault rules target 0 t)
+
+-- the fault of a description whatever the rules
+abbrev pub IsFaultByAny : Target → Tree → DescError → Type 0
+IsFaultByAny target t error = (rules : Rules) → desc_fault rules target t ≡ Some error

@@ -1,5 +1,5 @@
 -- Laws over the definitions of layouts, each in the words of its subject.
-use Rattle.std.specs.Prelude.{◌≡◌, List, Option, None, ℕ, IsTrue}
+use Rattle.std.specs.Prelude.{◌≡◌, List, Option, Some, None, ℕ, IsTrue}
 use Rattle.abi_num.specs.Target.{is_row}
 use Rattle.abi_num.specs.declared.target.Target.{Target}
 use Rattle.abi_det.specs.Frame.{Frame, IsLawful}
@@ -9,7 +9,8 @@ use Rattle.abi_layout.specs.Structs.{struct_frame}
 use Rattle.abi_layout.specs.Folds.{opened, closed_by, AreLawful}
 use Rattle.abi_layout.specs.Trees.{Tree}
 use Rattle.abi_layout.specs.Frames.{written_frame}
-use Rattle.abi_layout.specs.Faults.{part_fault}
+use Rattle.abi_layout.specs.Faults.{part_fault, desc_fault}
+use Rattle.abi_layout.specs.declared.desc_error.DescError.TheVariants as of_desc
 
 -- folding lawful fields from the left and closing what comes out gives the struct by positions
 abbrev pub FoldLaw : Type 0
@@ -26,3 +27,7 @@ abbrev pub SoundLaw : Type 0
 SoundLaw =
     (rules : Rules) (target : Target) (first : ℕ) (t : Tree) → IsTrue (is_row target) → part_fault rules target first t ≡ None
     → IsSound (written_frame rules target t)
+
+-- the fault of a description is never want of memory
+abbrev pub CauseLaw : Type 0
+CauseLaw = (rules : Rules) (target : Target) (t : Tree) → desc_fault rules target t ≡ Some of_desc.OutOfMemory → ⊥

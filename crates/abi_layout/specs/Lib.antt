@@ -6,3 +6,7 @@ pub mod Laws
 pub mod Prims
 pub mod Structs
 pub mod Trees
+pub mod Shape
+pub mod Plans
+pub mod Sums
+pub mod PartView

@@ -1,6 +1,9 @@
 -- Descriptions as plain trees.
-use Rattle.std.specs.Prelude.{ℕ, ◌+◌, List, [], ◌∷◌, Option, map}
+use Rattle.std.specs.Prelude.{ℕ, ◌+◌, List, [], ◌∷◌, Bool, true, false, Option, map, if◌then◌else◌}
 use Rattle.abi_layout.specs.declared.prim.Primitive.{Primitive}
+use Rattle.abi_layout.specs.declared.prim.Primitive.TheVariants as primitive
+use Rattle.abi_layout.specs.declared.part.Sort.{Sort}
+use Rattle.abi_layout.specs.declared.part.Sort.TheVariants as sort
 use Rattle.abi_layout.specs.declared.desc.Desc.{Desc, fold-Desc}
 use Rattle.abi_layout.specs.declared.desc.Desc.TheOpen.{Desc-F, Field-F}
 use Rattle.abi_layout.specs.declared.desc.Field.{Field}
@@ -15,12 +18,23 @@ mutual
   pub data Tree : Type 0 where
     prim : Primitive → Tree
     struct : Label → Branches → Option ℕ → Tree
-    result : Tree → Tree → Tree
-    option : Tree → Tree
+    -- a packed sum: what its variants are called, and what each holds; `Ok` and `Some` are the first, and `None` holds `()`
+    sum : Sort → (Bool → Tree) → Tree
 
   pub data Branches : Type 0 where
     none : Branches
     field : List ℕ → Tree → Branches → Branches
+
+-- the first of two, or the second
+abbrev pub sides : {A : Type 0} → A → A → Bool → A
+sides a b first = if first then a else b
+
+-- for those who write a tree down
+abbrev pub result : Tree → Tree → Tree
+result ok err = sum sort.OfResult (sides ok err)
+
+abbrev pub option : Tree → Tree
+option some = sum sort.OfOption (sides some (prim primitive.Unit))
 
 -- a field's name and tree
 abbrev pub Named : Type 0
@@ -46,13 +60,17 @@ tree = fold-Desc Tree Named desc_step field_step
 abbrev pub branches : List Field → Branches
 branches fs = branches_of (map (λ f. (f.name, tree f.ty)) fs)
 
+-- the number of parts of both variants: `()` is none of an option's
+abbrev pub variant_parts : Sort → ℕ → ℕ → ℕ
+variant_parts sort.OfResult a b = a + b
+variant_parts sort.OfOption a b = a
+
 -- the number of parts
 abbrev mutual
   pub parts : Tree → ℕ
   parts (prim p) = 1
   parts (struct label fs align) = parts_in fs + 1
-  parts (result ok err) = parts ok + parts err + 1
-  parts (option some) = parts some + 1
+  parts (sum names side) = variant_parts names (parts (side true)) (parts (side false)) + 1
 
   pub parts_in : Branches → ℕ
   parts_in none = 0

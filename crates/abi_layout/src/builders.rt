@@ -12,8 +12,8 @@ use abi_det::{Layout, RawLayout};
 use abi_num::{Alignment, OutOfMemory};
 use std::alloc::Global;
 
-/// `t` after `start` bytes: at the next multiple of its alignment, with the bytes up to there free. The
-/// resulting size is at most `MAX_SIZE`.
+/// `t` after `start` bytes: at the next multiple of its alignment, with the bytes up to there free.
+/// The resulting size is at most `MAX_SIZE`.
 pub fn aligned_after(alloc: Global, t: &Layout, start: u64) -> Result<RawLayout, OutOfMemory>
     requires { start_after start t.now + t.now.size ≤ 1048576 }
     ensures { IfOk result (λ raw. frame raw ≡ after t.now start) }
@@ -31,8 +31,8 @@ pub fn aligned_after(alloc: Global, t: &Layout, start: u64) -> Result<RawLayout,
     })
 }
 
-/// The field `b` after the fields `a`, which keep the rule of lawful layouts but for the size, which need be
-/// no multiple of the alignment. The resulting size is at most `MAX_SIZE`.
+/// The field `b` after the fields `a`, which keep the rule of lawful layouts but for the size,
+/// which need be no multiple of the alignment. The resulting size is at most `MAX_SIZE`.
 pub fn field_pair(alloc: Global, a: &RawLayout, b: &Layout) -> Result<RawLayout, OutOfMemory>
     requires open { IsOpen (frame a.now) }
     requires room { start_after a.now.size b.now + b.now.size ≤ 1048576 }
@@ -71,8 +71,9 @@ pub(crate) fn push_field(
     })
 }
 
-/// The fields `t` as a struct: the size is rounded up to the alignment, and the added bytes are free. `t`
-/// keeps the rule of lawful layouts but for the size, which need be no multiple of the alignment.
+/// The fields `t` as a struct: the size is rounded up to the alignment, and the added bytes are
+/// free. `t` keeps the rule of lawful layouts but for the size, which need be no multiple of the
+/// alignment.
 #[tactic(auto, using(crate::proofs::Opening::open_parts))]
 pub fn struct_of(_alloc: Global, t: RawLayout) -> Result<Layout, OutOfMemory>
     requires { IsOpen (frame t) }
@@ -83,9 +84,9 @@ pub fn struct_of(_alloc: Global, t: RawLayout) -> Result<Layout, OutOfMemory>
     Ok(layout)
 }
 
-/// The fields `t` as a struct at a requested alignment: the size is rounded up to the larger alignment, and
-/// of the added bytes those up to the rounding at the fields' own alignment are free. `t` is as in
-/// `struct_of`.
+/// The fields `t` as a struct at a requested alignment: the size is rounded up to the larger
+/// alignment, and of the added bytes those up to the rounding at the fields' own alignment are
+/// free. `t` is as in `struct_of`.
 #[tactic(auto, using(crate::proofs::Opening::open_parts, abi_det::proofs::Sizes::alignment_max))]
 pub fn aligned_struct(_alloc: Global, t: RawLayout, align: Alignment) -> Result<Layout, OutOfMemory>
     requires { IsOpen (frame t) }
@@ -126,8 +127,8 @@ pub fn union_of(alloc: Global, ok: &Layout, err: &Layout) -> Layout
     bare(alloc, size, align, SaturatingAddValue::B0, indirections)
 }
 
-/// Several of one in a row, at most 128 and of at most `MAX_SIZE` bytes in all: one alone passes on what it
-/// has.
+/// Several of one in a row, at most 128 and of at most `MAX_SIZE` bytes in all: one alone passes on
+/// what it has.
 pub fn array_of(alloc: Global, item: &Layout, len: u64) -> Result<Layout, OutOfMemory>
     requires few { len ≤ 128 }
     requires room { item.now.size * len ≤ 1048576 }
@@ -159,7 +160,7 @@ fn niches_of_row(len: u64) -> SaturatingAddValue
 }
 
 /// The layout of bytes of which none is free or forbidden.
-pub(crate) fn bare(
+fn bare(
     alloc: Global,
     size: u64,
     align: u64,
@@ -196,7 +197,10 @@ fn with_field(unused: BitMask, end: u64, start: u64, field: &Layout) -> Result<B
     requires below { IsTrue (are_below end unused) }
     requires ordered { end ≤ start }
     requires room { start + field.now.size ≤ 1048576 }
-    ensures { IfOk result (λ mask. mask ≡ entries_below (λ at. bit_or (mask_at unused at) (bit_or (whole_between end start at) (byte_from start field.now at))) (start + field.now.size)) }
+    ensures { IfOk result (λ mask. mask ≡ entries_below
+        (λ at. bit_or (mask_at unused at)
+        (bit_or (whole_between end start at) (byte_from start field.now at)))
+        (start + field.now.size)) }
 {
     let padded = with_whole(unused, end, start)?;
     let mask = padded.with_moved(field.unused(), start)?;
@@ -211,7 +215,8 @@ fn with_whole(mut unused: BitMask, from: u64, to: u64) -> Result<BitMask, OutOfM
     requires within { to ≤ 1048576 }
     ensures valid { IfOk result (λ mask. IsMask mask) }
     ensures below { IfOk result (λ mask. IsTrue (are_below to mask)) }
-    ensures bytes { IfOk result (λ mask. (at : ℕ) → mask_at mask at ≡ bit_or (mask_at unused at) (whole_between from to at)) }
+    ensures bytes { IfOk result (λ mask. (at : ℕ) →
+        mask_at mask at ≡ bit_or (mask_at unused at) (whole_between from to at)) }
 {
     for at in from..to {
         unused.push_byte(at, 255)?;

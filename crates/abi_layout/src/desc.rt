@@ -14,8 +14,8 @@ pub struct Field {
     pub ty: Desc,
 }
 
-/// A description of a type. Its parts are numbered from 0 in post-order: fields in order, `ok` before
-/// `err`, then the whole.
+/// A description of a type. Its parts are numbered from 0 in post-order: fields in order, `ok`
+/// before `err`, then the whole.
 #[cycle(desc)]
 #[derive(Drop)]
 pub enum Desc {

@@ -1,21 +1,26 @@
 //! Laws over the definitions of layouts: each is the contract of a function that does nothing.
-ghost use Rattle.abi_layout.specs.Laws.{FoldLaw, LawfulLaw, SoundLaw};
+ghost use Rattle.abi_layout.specs.Laws.{CauseLaw, FoldLaw, LawfulLaw, SoundLaw};
 
-/// Fields folded from the left and closed, at a requested alignment or their own, make the struct by
-/// positions: size, alignment, free bits, forbidden values, head, count and indirections.
+/// Fields folded from the left and closed, at a requested alignment or their own, make the struct
+/// by positions: size, alignment, free bits, forbidden values, head, count and indirections.
 #[tactic(auto, using(crate::proofs::Folding::fold_is_struct))]
 pub fn fields_folded_are_struct()
     ensures { FoldLaw }
 {}
 
 /// A description without a fault, and so each part of it, has a lawful frame on a supported target.
-#[tactic(auto, using(crate::proofs::Faultless::part_lawful))]
 pub fn faultless_is_lawful()
     ensures { LawfulLaw }
 {}
 
-/// Its free bits and patterns stand in order, and what its leftmost forbidden value offers is the first
-/// pattern that it offers.
+/// Its free bits and patterns stand in order, and what its leftmost forbidden value offers is the
+/// first pattern that it offers.
 pub fn faultless_is_sound()
     ensures { SoundLaw }
+{}
+
+/// The fault of a description is never want of memory.
+#[tactic(auto, using(crate::proofs::Causes::desc_cause))]
+pub fn faults_have_causes()
+    ensures { CauseLaw }
 {}

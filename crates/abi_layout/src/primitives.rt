@@ -1,55 +1,84 @@
 ghost use Rattle.std.specs.Prelude.{◌≡◌, ◌<◌, ◌≤◌, IsTrue, IfOk};
 ghost use Rattle.abi_num.specs.Target.{is_row};
 ghost use Rattle.abi_bits.specs.Forbidden.{items, head};
-ghost use Rattle.abi_layout.specs.Prims.{width_of, niches_of, align_of, zero_bytes, niche_items, niche_head, niche_count, prim_frame, unit_frame};
+ghost use Rattle.abi_layout.specs.Prims.{scalar_of, integer, align_of, zero_bytes, scalar_items, scalar_head, scalar_count, scalar_frame, prim_frame};
 
-use crate::builders::bare;
-use crate::prim::Primitive;
+use crate::prim::Primitive as Prim;
+use crate::scalar::{Integer, Scalar, Width};
 use abi_bits::{BitMask, ForbiddenValues, Pattern, SaturatingAddValue};
 use abi_det::{Layout, RawLayout};
 use abi_num::{Items, OutOfMemory, Target};
 use std::alloc::Global;
 
+/// How a primitive stands in its bytes on a target.
+pub fn scalar_of(target: &Target, prim: Prim) -> Scalar
+    ensures { result ≡ scalar_of target.now prim }
+{
+    match prim {
+        Prim::Unit => Scalar::Unit,
+        Prim::Bool => Scalar::Bool,
+        Prim::U8 => integer(target, Width::One, false, true),
+        Prim::U16 => integer(target, Width::Two, false, true),
+        Prim::U32 => integer(target, Width::Four, false, true),
+        Prim::U64 => integer(target, Width::Eight, false, true),
+        Prim::U128 => integer(target, Width::Sixteen, false, true),
+        Prim::I8 => integer(target, Width::One, true, true),
+        Prim::I16 => integer(target, Width::Two, true, true),
+        Prim::I32 => integer(target, Width::Four, true, true),
+        Prim::I64 => integer(target, Width::Eight, true, true),
+        Prim::I128 => integer(target, Width::Sixteen, true, true),
+        Prim::NonZeroU8 => integer(target, Width::One, false, false),
+        Prim::NonZeroU16 => integer(target, Width::Two, false, false),
+        Prim::NonZeroU32 => integer(target, Width::Four, false, false),
+        Prim::NonZeroU64 => integer(target, Width::Eight, false, false),
+        Prim::NonZeroU128 => integer(target, Width::Sixteen, false, false),
+    }
+}
+
+/// An integer of the target: whether it may be negative, and whether it may be 0.
+fn integer(target: &Target, width: Width, signed: bool, zero: bool) -> Scalar
+    ensures { result ≡ integer target.now width signed zero }
+{
+    Scalar::Int(Integer {
+        width,
+        signed,
+        zero,
+        little: target.little,
+    })
+}
+
 /// The layout of a primitive on a target, which is a supported one.
-pub fn prim_layout(alloc: Global, target: &Target, prim: &Primitive) -> Result<Layout, OutOfMemory>
+pub fn prim_layout(alloc: Global, target: &Target, prim: &Prim) -> Result<Layout, OutOfMemory>
     requires { IsTrue (is_row target.now) }
     ensures { IfOk result (λ l. l ≡ prim_frame target.now prim.now) }
 {
-    let size = width_of(*prim);
-    let forbidden = forbidden_of(alloc, *prim, size)?;
+    let scalar = scalar_of(target, *prim);
+    let layout = scalar_layout(alloc, target, scalar)?;
+    Ok(layout)
+}
+
+/// The layout of what stands so in its bytes, on a target, which is a supported one.
+pub(crate) fn scalar_layout(
+    alloc: Global,
+    target: &Target,
+    scalar: Scalar,
+) -> Result<Layout, OutOfMemory>
+    requires { IsTrue (is_row target.now) }
+    ensures { IfOk result (λ l. l ≡ scalar_frame target.now scalar) }
+{
+    let size = scalar.size();
+    let forbidden = forbidden_of(alloc, scalar)?;
     Ok(Layout::from_lawful(RawLayout {
         size,
         align: align_of(target, size),
         forbidden,
         unused: BitMask::new(alloc),
-        niches: niches_of(*prim),
+        niches: niches_of(scalar),
         indirections: false,
     }))
 }
 
-/// The layout of `()`. Takes no memory.
-#[tactic(auto, using(crate::proofs::Rows::unit_lawful))]
-pub fn unit_layout(alloc: Global) -> Layout
-    ensures { result ≡ unit_frame }
-{
-    bare(alloc, 0, 1, SaturatingAddValue::B0, false)
-}
-
-/// The width of a primitive in bytes.
-fn width_of(prim: Primitive) -> u64
-    ensures { result ≡ width_of prim }
-{
-    match prim {
-        Primitive::Unit => 0,
-        Primitive::Bool | Primitive::U8 | Primitive::I8 | Primitive::NonZeroU8 => 1,
-        Primitive::U16 | Primitive::I16 | Primitive::NonZeroU16 => 2,
-        Primitive::U32 | Primitive::I32 | Primitive::NonZeroU32 => 4,
-        Primitive::U64 | Primitive::I64 | Primitive::NonZeroU64 => 8,
-        Primitive::U128 | Primitive::I128 | Primitive::NonZeroU128 => 16,
-    }
-}
-
-/// The alignment in bytes of a primitive of `width` bytes.
+/// The alignment in bytes of `width` bytes without parts.
 fn align_of(target: &Target, width: u64) -> u64
     ensures { result ≡ align_of target.now width }
 {
@@ -61,42 +90,42 @@ fn align_of(target: &Target, width: u64) -> u64
     }
 }
 
-/// The count of a primitive's niches.
-fn niches_of(prim: Primitive) -> SaturatingAddValue
-    ensures { result ≡ niche_count (niches_of prim) }
+/// The count of niches.
+fn niches_of(scalar: Scalar) -> SaturatingAddValue
+    ensures { result ≡ scalar_count scalar }
 {
-    match prim {
-        Primitive::Bool => SaturatingAddValue::Saturator,
-        Primitive::NonZeroU8
-        | Primitive::NonZeroU16
-        | Primitive::NonZeroU32
-        | Primitive::NonZeroU64
-        | Primitive::NonZeroU128 => SaturatingAddValue::B1,
-        _ => SaturatingAddValue::B0,
+    match scalar {
+        Scalar::Unit => SaturatingAddValue::B0,
+        Scalar::Bool => SaturatingAddValue::Saturator,
+        Scalar::Int(integer) => {
+            if integer.zero {
+                SaturatingAddValue::B0
+            } else {
+                SaturatingAddValue::B1
+            }
+        }
     }
 }
 
-/// What the bytes of a primitive of `width` bytes never are.
-fn forbidden_of(alloc: Global, prim: Primitive, width: u64) -> Result<ForbiddenValues, OutOfMemory>
-    requires { width ≡ width_of prim }
-    ensures items { IfOk result (λ forbidden. items forbidden ≡ niche_items (niches_of prim) (width_of prim)) }
-    ensures head { IfOk result (λ forbidden. head forbidden ≡ niche_head (niches_of prim) (width_of prim)) }
+/// What the bytes never are.
+fn forbidden_of(alloc: Global, scalar: Scalar) -> Result<ForbiddenValues, OutOfMemory>
+    ensures items { IfOk result (λ forbidden. items forbidden ≡ scalar_items scalar) }
+    ensures head { IfOk result (λ forbidden. head forbidden ≡ scalar_head scalar) }
 {
-    match prim {
-        Primitive::Bool => Ok(ForbiddenValues::ForbiddenRange {
+    match scalar {
+        Scalar::Unit => Ok(ForbiddenValues::End),
+        Scalar::Bool => Ok(ForbiddenValues::ForbiddenRange {
             min: 2,
             max: 255,
             offset: 0,
         }),
-        Primitive::NonZeroU8
-        | Primitive::NonZeroU16
-        | Primitive::NonZeroU32
-        | Primitive::NonZeroU64
-        | Primitive::NonZeroU128 => {
-            let zero = zero_pattern(alloc, width)?;
+        Scalar::Int(integer) => {
+            if integer.zero {
+                return Ok(ForbiddenValues::End);
+            }
+            let zero = zero_pattern(alloc, integer.width.bytes())?;
             Ok(ForbiddenValues::Array(zero))
         }
-        _ => Ok(ForbiddenValues::End),
     }
 }
 

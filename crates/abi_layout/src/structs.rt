@@ -13,9 +13,9 @@ use abi_det::{Layout, RawLayout};
 use abi_num::{Alignment, OutOfMemory};
 use std::alloc::Global;
 
-/// The layout of a struct of these fields, which is part number `part` of a description; `align` may request
-/// an alignment in bytes. Refused with `IllFormed` where that is none, and with `TooLarge` where the struct's
-/// size passes `MAX_SIZE`.
+/// The layout of a struct of these fields, which is part number `part` of a description; `align`
+/// may request an alignment in bytes. Refused with `IllFormed` where that is none, and with
+/// `TooLarge` where the struct's size passes `MAX_SIZE`.
 pub fn struct_layout(
     alloc: Global,
     part: u32,
@@ -23,7 +23,8 @@ pub fn struct_layout(
     align: Option<u64>,
 ) -> Result<Layout, DescError>
     requires { AreLawful fields.now }
-    ensures ok { IfOk result (λ l. (struct_fault part fields.now align ≡ None) × (l ≡ struct_frame fields.now align)) }
+    ensures faultless { IfOk result (λ _. struct_fault part fields.now align ≡ None) }
+    ensures layout { IfOk result (λ l. l ≡ struct_frame fields.now align) }
     ensures err { IfErr result (IsFault (struct_fault part fields.now align)) }
 {
     let alignment = requested(part, align)?;
@@ -54,7 +55,9 @@ fn requested(part: u32, align: Option<u64>) -> Result<Option<Alignment>, DescErr
 /// The fields one after the other; `None` where they end past `MAX_SIZE`.
 fn open_struct(alloc: Global, fields: &[Layout]) -> Result<Option<RawLayout>, OutOfMemory>
     requires { AreLawful fields.now }
-    ensures { IfOk result (λ found. MatchOption found (1048576 < end_of 0 fields.now) (λ raw. (frame raw ≡ opened fields.now) × IsOpen (frame raw))) }
+    ensures { IfOk result (λ found. MatchOption found
+        (1048576 < end_of 0 fields.now)
+        (λ raw. (frame raw ≡ opened fields.now) × IsOpen (frame raw))) }
 {
     match fields.split_first() {
         None => Ok(Some(no_bytes(alloc))),
@@ -74,7 +77,9 @@ fn with_fields(
 ) -> Result<Option<RawLayout>, OutOfMemory>
     requires built { IsOpen (frame raw) }
     requires lawful { AreLawful others.now }
-    ensures { IfOk result (λ found. MatchOption found (1048576 < end_of raw.size others.now) (λ whole. (frame whole ≡ folded (frame raw) others.now) × IsOpen (frame whole))) }
+    ensures { IfOk result (λ found. MatchOption found
+        (1048576 < end_of raw.size others.now)
+        (λ whole. (frame whole ≡ folded (frame raw) others.now) × IsOpen (frame whole))) }
 {
     let mut whole = raw;
     for field in others {

@@ -4,11 +4,12 @@ ghost use Rattle.abi_layout.specs.Builders.{IsOpen};
 
 use crate::structs::end_after;
 use crate::{
-    Desc, DescError, Field, FieldDescs, Prim, aligned_after, aligned_struct, array_of, field_pair,
-    layout_of, parts, prim_layout, struct_of, union_of,
+    Desc, DescError, Field, FieldDescs, Integer, Part, Prim, Scalar, Sort, Width, aligned_after,
+    aligned_struct, array_of, field_pair, lay_out, layout_of, parts, prim_layout, scalar_of,
+    struct_of, union_of,
 };
 use abi_bits::SaturatingAddValue;
-use abi_det::{Layout, RawLayout};
+use abi_det::{Kind, Layout, RawLayout, Rules};
 use abi_num::{Alignment, Items, Target, Text};
 use std::alloc::Global;
 use std::process::Abort;
@@ -421,5 +422,51 @@ fn targets_and_numbers_of_parts_come_first(rt: HostRuntime) -> Result<(), Fail> 
             }
         )?
     );
+    Ok(())
+}
+
+/// The names of the part's variants, where both start, and its size; `None` where it is no sum.
+fn sum_told(part: &Part) -> Option<(Sort, u64, u64, u64)> {
+    match part {
+        Part::Sum { names, spot, .. } => Some((*names, spot.ok, spot.err, spot.size)),
+        Part::Scalar(_) => None,
+        Part::Struct { .. } => None,
+        Part::Array { .. } => None,
+    }
+}
+
+#[test]
+fn none_takes_what_its_rules_let_it_see(rt: HostRuntime) -> Result<(), Fail> {
+    let alloc = rt.alloc();
+    for (rules, kind, left) in [
+        (Rules::One, Kind::SharedBit, 254),
+        (Rules::Two, Kind::LargerPattern, 255),
+    ] {
+        let word = struct_of_prims(alloc, &[Prim::U32, Prim::Bool], None)?;
+        let option = option_desc(alloc, word)?;
+        let found = lay_out(alloc, rules, &le64(), &option)?;
+        assert!(rt; found.layout.unused().byte_at(5) == left);
+        assert!(rt; sum_told(&found.part) == Some((Sort::OfOption, 0, 0, 8)));
+        let placed = found.placed.as_slice();
+        assert!(rt; placed.len() == 1);
+        // The option is the part after the struct, which comes after its two fields.
+        assert!(rt; placed[0].part == 3);
+        assert!(rt; placed[0].kind == kind);
+    }
+    Ok(())
+}
+
+#[test]
+fn integers_stand_in_the_byte_order_of_the_target(rt: HostRuntime) -> Result<(), Fail> {
+    for (name, little) in [("le64", true), ("be64", false)] {
+        let target = Target::named(name).ok_or("no such target")?;
+        let word = Integer {
+            width: Width::Four,
+            signed: true,
+            zero: true,
+            little,
+        };
+        assert!(rt; scalar_of(&target, Prim::I32) == Scalar::Int(word));
+    }
     Ok(())
 }

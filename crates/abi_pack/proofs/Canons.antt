@@ -7,18 +7,18 @@ use Rattle.std.proofs.lemmas.Nat.Bits.{bit_at-zero}
 use Rattle.abi_det.specs.State.{test_holds, is_tested, is_state_ok, carry}
 use Rattle.abi_det.specs.Owed.{is_carried, IsTest}
 use Rattle.abi_pack.specs.Image.{Image, AreBytes, from, bytes_of}
-use Rattle.abi_pack.specs.Form.{form_size, stored}
+use Rattle.abi_layout.specs.Prims.{scalar_size}
+use Rattle.abi_pack.specs.Scalars.{stored}
 use Rattle.abi_pack.specs.Packed.{zeros, placed, packed, packed_in}
 use Rattle.abi_pack.specs.Plain.{Plain, Plains, list, variant, end, more}
-use Rattle.abi_pack.specs.Shape.{Shape, Shapes, prim, struct, sum, last, field, size, size_in, is_free}
-use Rattle.abi_pack.specs.Shows.{Shows, ShowIn, fits, fits_in, same_sort, holds, holds_in, moved_held, sign_of, IsCanonical}
-use Rattle.abi_pack.specs.Sound.{IsSound, AreSound, IsSide, is_free_at}
-use Rattle.abi_pack.specs.declared.part.Spot.{Spot}
+use Rattle.abi_layout.specs.Shape.{Shape, Shapes, scalar, fields, sum, last, field, size, size_in}
+use Rattle.abi_pack.specs.Shows.{Shows, ShowIn, fits, fits_in, same_sort, holds, holds_in, held_at, start_of, sign_of, holds_test, IsCanonical}
+use Rattle.abi_pack.specs.Sound.{IsSound, AreSound, IsSide}
+use Rattle.abi_layout.specs.declared.part.Spot.{Spot}
 use Rattle.abi_pack.proofs.Choice.{in_field, behind_field, three_places, and_first, and_second, neither_first, neither_second, two_truths}
 use Rattle.abi_pack.proofs.Numbers.{AllBytes}
-use Rattle.abi_pack.proofs.Forms.{stored_length, stored_small}
-use Rattle.abi_pack.proofs.Free.{free_not_held}
-use Rattle.abi_pack.proofs.Agreed.{agree, agree_in, missing, side_holds}
+use Rattle.abi_pack.proofs.Stored.{stored_length, stored_small}
+use Rattle.abi_pack.proofs.Agreed.{agree, agree_in, missing, side_holds, held_there}
 use Rattle.abi_pack.proofs.Truths.{sign_state}
 use Rattle.abi_pack.proofs.Lists.{zeros_length, zeros_at, before_part, in_part, behind_part, parts_length}
 use Rattle.abi_pack.proofs.Carried.{carry_length, carry_small, carry_kept, carry_truth}
@@ -53,16 +53,14 @@ placed_at total shift n xs i long h =
     in_part shift n xs (zeros (total - (shift + n))) (shift + i) long (omega arith) (omega arith) ∙ ap (λ j. get_or xs j 0) back
 
 -- a bit that a value of the part holds is none of the test's that are written over it
-apart : (s : Shape) (v : Plain) (shift : ℕ) (sign : Bool) (at : Spot) → IsSound s → IsSide s shift sign at
-    → (i k : ℕ) → i < size s → k < 8 → holds s v i k ≡ true → (is_carried at.determinant.test sign && is_tested at.determinant.test (shift + i) k) ≡ false
-apart s v shift sign at sound side i k low small held =
-    by_truths (is_carried at.determinant.test sign) (is_tested at.determinant.test (shift + i) k) (two_truths _) (two_truths _)
+apart : (s : Shape) (v : Plain) (first : Bool) (at : Spot) → IsSide s first at
+    → (i k : ℕ) → i < size s → k < 8 → holds s v i k ≡ true → holds_test at.determinant first (start_of at first + i) k ≡ false
+apart s v first at side i k low small held =
+    by_truths (is_carried at.determinant.test (sign_of at first)) (is_tested at.determinant.test (start_of at first + i) k) (two_truths _) (two_truths _)
     (λ carried own.
-    let back : shift + i - shift ≡ i = omega arith in
-    let free_there : is_free_at s shift (shift + i) k ≡ true = side.carried carried (shift + i) k small own in
-    let free_here : is_free s (shift + i - shift) k ≡ true =
-    sym (in_field (shift + i) shift (size s) true (is_free s (shift + i - shift) k) true (omega arith) (omega arith)) ∙ free_there in
-    let none : holds s v i k ≡ false = free_not_held s v i k sound small (rw back at free_here) in absurd (cc))
+    let there : held_at (start_of at first) (size s) (λ j l. holds s v j l) (start_of at first + i) k ≡ true = held_there s v (start_of at first) i k low held in
+    let none : held_at (start_of at first) (size s) (λ j l. holds s v j l) (start_of at first + i) k ≡ false =
+    side.carried carried v (start_of at first + i) k small own in absurd (cc))
   where
     by_truths : (p q : Bool) → (p ≡ true) ⊎ (p ≡ false) → (q ≡ true) ⊎ (q ≡ false) → (p ≡ true → q ≡ true → ⊥) → (p && q) ≡ false
     by_truths true true a b never = absurd (never refl refl)
@@ -70,42 +68,44 @@ apart s v shift sign at sound side i k low small held =
     by_truths false q a b never = refl
 
 -- the bytes of a variant
-abbrev variant_bytes : Shape → ℕ → Bool → Spot → List ℕ → List ℕ
-variant_bytes s shift sign at xs = carry at.determinant.test sign (placed at.size shift (size s) xs)
+abbrev variant_bytes : Shape → Bool → Spot → List ℕ → List ℕ
+variant_bytes s first at xs = carry at.determinant.test (sign_of at first) (placed at.size (start_of at first) (size s) xs)
 
-pub record IsVariant (s : Shape) (v : Plain) (shift : ℕ) (side : Bool) (at : Spot) (g : List ℕ) : Type 0 where
+pub record IsVariant (s : Shape) (v : Plain) (first : Bool) (at : Spot) (g : List ℕ) : Type 0 where
   pub long : length g ≡ at.size
   pub small : AllBytes g
-  pub state : is_state_ok at.determinant (bytes_of g) ≡ side
-  pub shows : Shows s v (from shift (bytes_of g))
-  pub clear : (i k : ℕ) → i < at.size → k < 8 → side_holds s v shift (sign_of at side) at.determinant.test i k ≡ false → bit_at (get_or g i 0) k ≡ 0
+  pub state : is_state_ok at.determinant (bytes_of g) ≡ first
+  pub shows : Shows s v (from (start_of at first) (bytes_of g))
+  pub clear : (i k : ℕ) → i < at.size → k < 8 → side_holds s v first at i k ≡ false → bit_at (get_or g i 0) k ≡ 0
 
-variant_shows : (s : Shape) (v : Plain) (shift : ℕ) (sign : Bool) (at : Spot) (xs : List ℕ) → IsSound s → IsSide s shift sign at → IsTest at.determinant.test at.size
-    → length xs ≡ size s → AllBytes xs → Shows s v (bytes_of xs) → Shows s v (from shift (bytes_of (variant_bytes s shift sign at xs)))
-variant_shows s v shift sign at xs sound side tested long small shown =
+variant_shows : (s : Shape) (v : Plain) (first : Bool) (at : Spot) (xs : List ℕ) → IsSound s → IsSide s first at → IsTest at.determinant.test at.size
+    → length xs ≡ size s → AllBytes xs → Shows s v (bytes_of xs) → Shows s v (from (start_of at first) (bytes_of (variant_bytes s first at xs)))
+variant_shows s v first at xs sound side tested long small shown =
+    let shift : ℕ = start_of at first in
+    let sign : Bool = sign_of at first in
     let whole : length (placed at.size shift (size s) xs) ≡ at.size = placed_length at.size shift (size s) xs long side.inside in
     let bytes : AllBytes (placed at.size shift (size s) xs) = placed_small at.size shift (size s) xs long small in
-    agree s v (bytes_of xs) (from shift (bytes_of (variant_bytes s shift sign at xs))) sound small
+    agree s v (bytes_of xs) (from shift (bytes_of (variant_bytes s first at xs))) sound small
     (λ i. carry_small at.determinant.test at.size sign (placed at.size shift (size s) xs) tested bytes (shift + i))
     (λ i k low eight held. sym
     (carry_kept at.determinant.test at.size sign (placed at.size shift (size s) xs) (shift + i) k tested (omega arith) eight
-    (apart s v shift sign at sound side i k low eight held)
+    (apart s v first at side i k low eight held)
     ∙ ap (λ x. bit_at x k) (placed_at at.size shift (size s) xs i long low)))
     shown
 
-variant_truth : (s : Shape) (v : Plain) (shift : ℕ) (sign : Bool) (at : Spot) (xs : List ℕ) → IsSide s shift sign at → IsTest at.determinant.test at.size
-    → length xs ≡ size s → Shows s v (from shift (bytes_of (variant_bytes s shift sign at xs)))
-    → (is_carried at.determinant.test sign ≡ true) ⊎ (is_carried at.determinant.test sign ≡ false)
-    → test_holds at.determinant.test (bytes_of (variant_bytes s shift sign at xs)) ≡ sign
-variant_truth s v shift sign at xs side tested long shown (inl carried) =
-    let whole : length (placed at.size shift (size s) xs) ≡ at.size = placed_length at.size shift (size s) xs long side.inside in
-    carry_truth at.determinant.test at.size sign (placed at.size shift (size s) xs) tested (omega arith) carried
-variant_truth s v shift sign at xs side tested long shown (inr lacks) =
-    missing s v shift sign at.determinant.test (bytes_of (variant_bytes s shift sign at xs)) shown side.forbids lacks
+variant_truth : (s : Shape) (v : Plain) (first : Bool) (at : Spot) (xs : List ℕ) → IsSide s first at → IsTest at.determinant.test at.size
+    → length xs ≡ size s → Shows s v (from (start_of at first) (bytes_of (variant_bytes s first at xs)))
+    → (is_carried at.determinant.test (sign_of at first) ≡ true) ⊎ (is_carried at.determinant.test (sign_of at first) ≡ false)
+    → test_holds at.determinant.test (bytes_of (variant_bytes s first at xs)) ≡ sign_of at first
+variant_truth s v first at xs side tested long shown (inl carried) =
+    let whole : length (placed at.size (start_of at first) (size s) xs) ≡ at.size = placed_length at.size (start_of at first) (size s) xs long side.inside in
+    carry_truth at.determinant.test at.size (sign_of at first) (placed at.size (start_of at first) (size s) xs) tested (omega arith) carried
+variant_truth s v first at xs side tested long shown (inr lacks) =
+    missing s v first at (bytes_of (variant_bytes s first at xs)) side shown lacks
 
 placed_clear : (s : Shape) (v : Plain) (shift total : ℕ) (xs : List ℕ) → length xs ≡ size s
     → ((i k : ℕ) → i < size s → k < 8 → holds s v i k ≡ false → bit_at (get_or xs i 0) k ≡ 0)
-    → (i k : ℕ) → k < 8 → moved_held shift (size s) (λ j l. holds s v j l) i k ≡ false → bit_at (get_or (placed total shift (size s) xs) i 0) k ≡ 0
+    → (i k : ℕ) → k < 8 → held_at shift (size s) (λ j l. holds s v j l) i k ≡ false → bit_at (get_or (placed total shift (size s) xs) i 0) k ≡ 0
 placed_clear s v shift total xs long clear i k small none =
     three_places i shift (size s)
     (λ h. no_bit _ k (before_part shift (xs ++ zeros (total - (shift + size s))) i h))
@@ -113,22 +113,23 @@ placed_clear s v shift total xs long clear i k small none =
     ∙ clear (i - shift) k (omega arith) small (sym (in_field i shift (size s) false (holds s v (i - shift) k) false g l) ∙ none))
     (λ h. no_bit _ k (behind_part shift (size s) xs (zeros (total - (shift + size s))) i long h ∙ zeros_at (total - (shift + size s)) (i - (shift + size s))))
 
-pub written_variant : (s : Shape) (v : Plain) (shift : ℕ) (side : Bool) (at : Spot) (xs : List ℕ) → IsSound s → IsSide s shift (sign_of at side) at → IsTest at.determinant.test at.size
-    → length xs ≡ size s → AllBytes xs → IsCanonical s v (bytes_of xs) → IsVariant s v shift side at (variant_bytes s shift (sign_of at side) at xs)
-written_variant s v shift side at xs sound is tested long small canon =
+pub written_variant : (s : Shape) (v : Plain) (first : Bool) (at : Spot) (xs : List ℕ) → IsSound s → IsSide s first at → IsTest at.determinant.test at.size
+    → length xs ≡ size s → AllBytes xs → IsCanonical s v (bytes_of xs) → IsVariant s v first at (variant_bytes s first at xs)
+written_variant s v first at xs sound is tested long small canon =
+    let shift : ℕ = start_of at first in
+    let held : ℕ → ℕ → Bool = λ i k. held_at shift (size s) (λ j l. holds s v j l) i k in
     let whole : length (placed at.size shift (size s) xs) ≡ at.size = placed_length at.size shift (size s) xs long is.inside in
     let bytes : AllBytes (placed at.size shift (size s) xs) = placed_small at.size shift (size s) xs long small in
-    let shown : Shows s v (from shift (bytes_of (variant_bytes s shift (sign_of at side) at xs))) =
-    variant_shows s v shift (sign_of at side) at xs sound is tested long small canon.shows in
+    let shown : Shows s v (from shift (bytes_of (variant_bytes s first at xs))) = variant_shows s v first at xs sound is tested long small canon.shows in
     record {
-      long = carry_length at.determinant.test (sign_of at side) (placed at.size shift (size s) xs) ∙ whole;
-      small = λ i. carry_small at.determinant.test at.size (sign_of at side) (placed at.size shift (size s) xs) tested bytes i;
-      state = sign_state at _ side (variant_truth s v shift (sign_of at side) at xs is tested long shown (two_truths _));
+      long = carry_length at.determinant.test (sign_of at first) (placed at.size shift (size s) xs) ∙ whole;
+      small = λ i. carry_small at.determinant.test at.size (sign_of at first) (placed at.size shift (size s) xs) tested bytes i;
+      state = sign_state at _ first (variant_truth s v first at xs is tested long shown (two_truths _));
       shows = shown;
       clear = λ i k low eight none.
-          carry_kept at.determinant.test at.size (sign_of at side) (placed at.size shift (size s) xs) i k tested (omega arith) eight
-          (neither_second (moved_held shift (size s) (λ j l. holds s v j l) i k) _ none)
-          ∙ placed_clear s v shift at.size xs long canon.clear i k eight (neither_first (moved_held shift (size s) (λ j l. holds s v j l) i k) _ none);
+          carry_kept at.determinant.test at.size (sign_of at first) (placed at.size shift (size s) xs) i k tested (omega arith) eight
+          (neither_second (held i k) _ none)
+          ∙ placed_clear s v shift at.size xs long canon.clear i k eight (neither_first (held i k) _ none);
     }
 
 -- ---- a field and those behind it
@@ -151,105 +152,103 @@ field_behind gap n b c i long =
 
 -- ---- every shape
 
+-- n bytes: a gap, a field, and those behind it
+whole_length : (gap n m : ℕ) (b c : List ℕ) → length b ≡ m → length c ≡ n - (gap + m) → gap + m ≤ n → length (zeros gap ++ (b ++ c)) ≡ n
+whole_length gap n m b c lb lc le = parts_length gap m (n - (gap + m)) b c lb lc ∙ omega arith
+
 mutual
   pub packed_length : (s : Shape) (v : Plain) → IsSound s → fits s v ≡ true → length (packed s v) ≡ size s
-  packed_length (prim form) v sound fit = stored_length form v fit
-  packed_length (struct fs) (list vs) sound fit = packed_in_length fs vs sound fit
-  packed_length (sum sort a b at) (variant kind true v) sound fit =
-      carry_length at.determinant.test (sign_of at true) (placed at.size at.ok (size a) (packed a v))
-      ∙ placed_length at.size at.ok (size a) (packed a v) (packed_length a v sound.0 (and_second (same_sort sort kind) _ fit)) sound.2.ok_side.inside
-  packed_length (sum sort a b at) (variant kind false v) sound fit =
-      carry_length at.determinant.test (sign_of at false) (placed at.size at.err (size b) (packed b v))
-      ∙ placed_length at.size at.err (size b) (packed b v) (packed_length b v sound.1 (and_second (same_sort sort kind) _ fit)) sound.2.err_side.inside
+  packed_length (scalar c) v sound fit = stored_length c v fit
+  packed_length (fields compound n fs) (list vs) sound fit = packed_in_length n fs vs sound.0 sound.1 fit
+  packed_length (sum names side at) (variant kind first v) sound fit =
+      carry_length at.determinant.test (sign_of at first) (placed at.size (start_of at first) (size (side first)) (packed (side first) v))
+      ∙ placed_length at.size (start_of at first) (size (side first)) (packed (side first) v)
+      (packed_length (side first) v (sound.0 first) (and_second (same_sort names kind) _ fit)) (sound.1.each first).inside
   packed_length _ _ sound fit = absurd (cc)
 
-  pub packed_in_length : (fs : Shapes) (vs : Plains) → AreSound fs → fits_in fs vs ≡ true → length (packed_in fs vs) ≡ size_in fs
-  packed_in_length (last free tail) end sound fit = zeros_length tail
-  packed_in_length (field gap s fs) (more v vs) sound fit =
-      parts_length gap (size s) (size_in fs) (packed s v) (packed_in fs vs)
-      (packed_length s v sound.0 (and_first (fits s v) _ fit)) (packed_in_length fs vs sound.1 (and_second (fits s v) _ fit))
-  packed_in_length _ _ sound fit = absurd (cc)
+  pub packed_in_length : (n : ℕ) (fs : Shapes) (vs : Plains) → AreSound fs → size_in fs ≤ n → fits_in fs vs ≡ true → length (packed_in n fs vs) ≡ n
+  packed_in_length n last end sound le fit = zeros_length n
+  packed_in_length n (field gap s fs) (more v vs) sound le fit =
+      whole_length gap n (size s) (packed s v) (packed_in (n - (gap + size s)) fs vs)
+      (packed_length s v sound.0 (and_first (fits s v) _ fit))
+      (packed_in_length (n - (gap + size s)) fs vs sound.1 (omega arith) (and_second (fits s v) _ fit)) (omega arith)
+  packed_in_length n _ _ sound le fit = absurd (cc)
 
 mutual
   pub packed_small : (s : Shape) (v : Plain) → IsSound s → fits s v ≡ true → AllBytes (packed s v)
-  packed_small (prim form) v sound fit i = stored_small form v fit i
-  packed_small (struct fs) (list vs) sound fit i = packed_in_small fs vs sound fit i
-  packed_small (sum sort a b at) (variant kind true v) sound fit i =
-      carry_small at.determinant.test at.size (sign_of at true) (placed at.size at.ok (size a) (packed a v)) sound.2.tested
-      (placed_small at.size at.ok (size a) (packed a v) (packed_length a v sound.0 (and_second (same_sort sort kind) _ fit))
-      (λ j. packed_small a v sound.0 (and_second (same_sort sort kind) _ fit) j)) i
-  packed_small (sum sort a b at) (variant kind false v) sound fit i =
-      carry_small at.determinant.test at.size (sign_of at false) (placed at.size at.err (size b) (packed b v)) sound.2.tested
-      (placed_small at.size at.err (size b) (packed b v) (packed_length b v sound.1 (and_second (same_sort sort kind) _ fit))
-      (λ j. packed_small b v sound.1 (and_second (same_sort sort kind) _ fit) j)) i
+  packed_small (scalar c) v sound fit i = stored_small c v fit i
+  packed_small (fields compound n fs) (list vs) sound fit i = packed_in_small n fs vs sound.0 fit i
+  packed_small (sum names side at) (variant kind first v) sound fit i =
+      let fit_ : fits (side first) v ≡ true = and_second (same_sort names kind) _ fit in
+      carry_small at.determinant.test at.size (sign_of at first) (placed at.size (start_of at first) (size (side first)) (packed (side first) v)) sound.1.tested
+      (placed_small at.size (start_of at first) (size (side first)) (packed (side first) v) (packed_length (side first) v (sound.0 first) fit_)
+      (λ j. packed_small (side first) v (sound.0 first) fit_ j)) i
   packed_small _ _ sound fit i = absurd (cc)
 
-  pub packed_in_small : (fs : Shapes) (vs : Plains) → AreSound fs → fits_in fs vs ≡ true → AllBytes (packed_in fs vs)
-  packed_in_small (last free tail) end sound fit i = zeros_small tail i
-  packed_in_small (field gap s fs) (more v vs) sound fit i =
-      parts_small gap (size s) (packed s v) (packed_in fs vs) (packed_length s v sound.0 (and_first (fits s v) _ fit))
-      (λ j. packed_small s v sound.0 (and_first (fits s v) _ fit) j) (λ j. packed_in_small fs vs sound.1 (and_second (fits s v) _ fit) j) i
-  packed_in_small _ _ sound fit i = absurd (cc)
+  pub packed_in_small : (n : ℕ) (fs : Shapes) (vs : Plains) → AreSound fs → fits_in fs vs ≡ true → AllBytes (packed_in n fs vs)
+  packed_in_small n last end sound fit i = zeros_small n i
+  packed_in_small n (field gap s fs) (more v vs) sound fit i =
+      parts_small gap (size s) (packed s v) (packed_in (n - (gap + size s)) fs vs) (packed_length s v sound.0 (and_first (fits s v) _ fit))
+      (λ j. packed_small s v sound.0 (and_first (fits s v) _ fit) j) (λ j. packed_in_small (n - (gap + size s)) fs vs sound.1 (and_second (fits s v) _ fit) j) i
+  packed_in_small n _ _ sound fit i = absurd (cc)
 
-pub record AreCanonical (fs : Shapes) (vs : Plains) (f : Image) : Type 0 where
+pub record AreCanonical (n : ℕ) (fs : Shapes) (vs : Plains) (f : Image) : Type 0 where
   pub shows : ShowIn fs vs f
-  pub clear : (i k : ℕ) → i < size_in fs → k < 8 → holds_in fs vs i k ≡ false → bit_at (f i) k ≡ 0
+  pub clear : (i k : ℕ) → i < n → k < 8 → holds_in fs vs i k ≡ false → bit_at (f i) k ≡ 0
 
-prim_canonical : (n : ℕ) (f : Image) (i k : ℕ) → i < n → nat_lt i n ≡ false → bit_at (f i) k ≡ 0
-prim_canonical n f i k low none = absurd (grind (arith, nat_tests))
+scalar_canonical : (n : ℕ) (f : Image) (i k : ℕ) → i < n → nat_lt i n ≡ false → bit_at (f i) k ≡ 0
+scalar_canonical n f i k low none = absurd (grind (arith, nat_tests))
 
-field_canonical : (gap : ℕ) (s : Shape) (fs : Shapes) (v : Plain) (vs : Plains) → AreSound (field gap s fs) → fits_in (field gap s fs) (more v vs) ≡ true
-    → IsCanonical s v (bytes_of (packed s v)) → AreCanonical fs vs (bytes_of (packed_in fs vs))
-    → AreCanonical (field gap s fs) (more v vs) (bytes_of (packed_in (field gap s fs) (more v vs)))
-field_canonical gap s fs v vs sound fit first rest =
+field_canonical : (n gap : ℕ) (s : Shape) (fs : Shapes) (v : Plain) (vs : Plains) → AreSound (field gap s fs) → size_in (field gap s fs) ≤ n
+    → fits_in (field gap s fs) (more v vs) ≡ true → IsCanonical s v (bytes_of (packed s v))
+    → AreCanonical (n - (gap + size s)) fs vs (bytes_of (packed_in (n - (gap + size s)) fs vs))
+    → AreCanonical n (field gap s fs) (more v vs) (bytes_of (packed_in n (field gap s fs) (more v vs)))
+field_canonical n gap s fs v vs sound le fit first rest =
     let long : length (packed s v) ≡ size s = packed_length s v sound.0 (and_first (fits s v) _ fit) in
-    let whole : AllBytes (packed_in (field gap s fs) (more v vs)) = packed_in_small (field gap s fs) (more v vs) sound fit in
+    let more_ : List ℕ = packed_in (n - (gap + size s)) fs vs in
+    let whole : AllBytes (packed_in n (field gap s fs) (more v vs)) = packed_in_small n (field gap s fs) (more v vs) sound fit in
     record {
       shows = (
-        same_shows s v (bytes_of (packed s v)) (from gap (bytes_of (packed_in (field gap s fs) (more v vs)))) sound.0
+        same_shows s v (bytes_of (packed s v)) (from gap (bytes_of (packed_in n (field gap s fs) (more v vs)))) sound.0
             (packed_small s v sound.0 (and_first (fits s v) _ fit)) (λ i. whole (gap + i))
-            (λ i h. field_here gap (size s) (packed s v) (packed_in fs vs) i long h) first.shows,
-        same_show_in fs vs (bytes_of (packed_in fs vs)) (from (gap + size s) (bytes_of (packed_in (field gap s fs) (more v vs)))) sound.1
-            (packed_in_small fs vs sound.1 (and_second (fits s v) _ fit)) (λ i. whole (gap + size s + i))
-            (λ i h. field_behind gap (size s) (packed s v) (packed_in fs vs) i long) rest.shows,
+            (λ i h. field_here gap (size s) (packed s v) more_ i long h) first.shows,
+        same_show_in fs vs (bytes_of more_) (from (gap + size s) (bytes_of (packed_in n (field gap s fs) (more v vs)))) sound.1
+            (packed_in_small (n - (gap + size s)) fs vs sound.1 (and_second (fits s v) _ fit)) (λ i. whole (gap + size s + i))
+            (λ i h. field_behind gap (size s) (packed s v) more_ i long) rest.shows,
       );
       clear = λ i k low small none.
           three_places i gap (size s)
-          (λ h. no_bit _ k (before_part gap (packed s v ++ packed_in fs vs) i h))
-          (λ g l. ap (λ x. bit_at x k) (in_part gap (size s) (packed s v) (packed_in fs vs) i long g l)
+          (λ h. no_bit _ k (before_part gap (packed s v ++ more_) i h))
+          (λ g l. ap (λ x. bit_at x k) (in_part gap (size s) (packed s v) more_ i long g l)
           ∙ first.clear (i - gap) k (omega arith) small
           (sym (in_field i gap (size s) false (holds s v (i - gap) k) (holds_in fs vs (i - (gap + size s)) k) g l) ∙ none))
-          (λ h. ap (λ x. bit_at x k) (behind_part gap (size s) (packed s v) (packed_in fs vs) i long h)
+          (λ h. ap (λ x. bit_at x k) (behind_part gap (size s) (packed s v) more_ i long h)
           ∙ rest.clear (i - (gap + size s)) k (omega arith) small
           (sym (behind_field i gap (size s) false (holds s v (i - gap) k) (holds_in fs vs (i - (gap + size s)) k) h) ∙ none));
     }
 
 mutual
   pub packed_canonical : (s : Shape) (v : Plain) → IsSound s → fits s v ≡ true → IsCanonical s v (bytes_of (packed s v))
-  packed_canonical (prim form) v sound fit = record {
+  packed_canonical (scalar c) v sound fit = record {
     shows = record { value = fit; same = λ i h. refl };
-    clear = λ i k low small none. prim_canonical (form_size form) (bytes_of (stored form v)) i k low none;
+    clear = λ i k low small none. scalar_canonical (scalar_size c) (bytes_of (stored c v)) i k low none;
   }
-  packed_canonical (struct fs) (list vs) sound fit =
-      let all : AreCanonical fs vs (bytes_of (packed_in fs vs)) = packed_in_canonical fs vs sound fit in
+  packed_canonical (fields compound n fs) (list vs) sound fit =
+      let all : AreCanonical n fs vs (bytes_of (packed_in n fs vs)) = packed_in_canonical n fs vs sound.0 sound.1 fit in
       record { shows = all.shows; clear = all.clear }
-  packed_canonical (sum sort a b at) (variant kind true v) sound fit =
-      let fit_ : fits a v ≡ true = and_second (same_sort sort kind) _ fit in
-      let is : IsVariant a v at.ok true at (packed (sum sort a b at) (variant kind true v)) =
-      written_variant a v at.ok true at (packed a v) sound.0 sound.2.ok_side sound.2.tested
-      (packed_length a v sound.0 fit_) (packed_small a v sound.0 fit_) (packed_canonical a v sound.0 fit_) in
-      record { shows = (and_first (same_sort sort kind) _ fit, is.state, is.shows); clear = is.clear }
-  packed_canonical (sum sort a b at) (variant kind false v) sound fit =
-      let fit_ : fits b v ≡ true = and_second (same_sort sort kind) _ fit in
-      let is : IsVariant b v at.err false at (packed (sum sort a b at) (variant kind false v)) =
-      written_variant b v at.err false at (packed b v) sound.1 sound.2.err_side sound.2.tested
-      (packed_length b v sound.1 fit_) (packed_small b v sound.1 fit_) (packed_canonical b v sound.1 fit_) in
-      record { shows = (and_first (same_sort sort kind) _ fit, is.state, is.shows); clear = is.clear }
+  packed_canonical (sum names side at) (variant kind first v) sound fit =
+      let s : Shape = side first in
+      let fit_ : fits s v ≡ true = and_second (same_sort names kind) _ fit in
+      let is : IsVariant s v first at (packed (sum names side at) (variant kind first v)) =
+      written_variant s v first at (packed s v) (sound.0 first) (sound.1.each first) sound.1.tested
+      (packed_length s v (sound.0 first) fit_) (packed_small s v (sound.0 first) fit_) (packed_canonical (side first) v (sound.0 first) fit_) in
+      record { shows = (and_first (same_sort names kind) _ fit, is.state, is.shows); clear = is.clear }
   packed_canonical _ _ sound fit = absurd (cc)
 
-  packed_in_canonical : (fs : Shapes) (vs : Plains) → AreSound fs → fits_in fs vs ≡ true → AreCanonical fs vs (bytes_of (packed_in fs vs))
-  packed_in_canonical (last free tail) end sound fit = record { shows = tt; clear = λ i k low small none. no_bit _ k (zeros_at tail i) }
-  packed_in_canonical (field gap s fs) (more v vs) sound fit =
-      field_canonical gap s fs v vs sound fit
-      (packed_canonical s v sound.0 (and_first (fits s v) _ fit)) (packed_in_canonical fs vs sound.1 (and_second (fits s v) _ fit))
-  packed_in_canonical _ _ sound fit = absurd (cc)
+  packed_in_canonical : (n : ℕ) (fs : Shapes) (vs : Plains) → AreSound fs → size_in fs ≤ n → fits_in fs vs ≡ true → AreCanonical n fs vs (bytes_of (packed_in n fs vs))
+  packed_in_canonical n last end sound le fit = record { shows = tt; clear = λ i k low small none. no_bit _ k (zeros_at n i) }
+  packed_in_canonical n (field gap s fs) (more v vs) sound le fit =
+      field_canonical n gap s fs v vs sound le fit
+      (packed_canonical s v sound.0 (and_first (fits s v) _ fit))
+      (packed_in_canonical (n - (gap + size s)) fs vs sound.1 (omega arith) (and_second (fits s v) _ fit))
+  packed_in_canonical n _ _ sound le fit = absurd (cc)

@@ -1,95 +1,169 @@
--- The laws of packed bytes.
+-- The laws of packed bytes, of descriptions, from those of their plans.
+use Rattle.std.specs.Prelude.{nat_lt}
 use Rattle.std.specs.Int.{bit_at}
-use Rattle.std.proofs.Common.{◌≡◌, ℕ, ◌+◌, ◌*◌, ◌/◌, ◌%◌, ◌^◌, ◌<◌, ◌≢◌, ◌⊎◌, inl, inr, List, get_or, true, false, ◌==◌, bit_xor, refl, ◌∙◌, sym, subst, arith}
+use Rattle.std.proofs.Common.{◌≡◌, ℕ, ◌+◌, ◌*◌, ◌/◌, ◌%◌, ◌^◌, ◌<◌, ◌≤◌, ◌≢◌, ◌⊎◌, inl, inr, List, get_or, Bool, true, false, not, ◌==◌, Option, Some, None, cond, bit_xor, refl, ◌∙◌, sym, subst, arith}
 use Rattle.std.proofs.lemmas.Bool.Decides.{nat_tests, eqb_tells}
+use Rattle.std.proofs.lemmas.Bool.{eq-eqb}
 use Rattle.std.proofs.lemmas.List.{ext_get_or}
 use Rattle.std.proofs.lemmas.Nat.{pow_below, xor_lt}
 use Rattle.std.proofs.lemmas.Nat.Bits.{bit_at-lt, bit_at_xor, bit_at-pow_same, bit_at-pow_other}
+use Rattle.abi_num.specs.Target.{is_row}
+use Rattle.abi_num.specs.declared.target.Target.{Target}
+use Rattle.abi_bits.specs.Mask.{mask_at}
+use Rattle.abi_det.specs.Offers.{Rules}
+use Rattle.abi_layout.specs.Faults.{part_fault, desc_fault}
+use Rattle.abi_layout.specs.Frames.{written_frame}
+use Rattle.abi_layout.specs.Plans.{planned}
+use Rattle.abi_layout.specs.Shape.{Shape}
+use Rattle.abi_layout.specs.Trees.{Tree, parts}
+use Rattle.abi_layout.specs.declared.desc_error.DescError.{DescError}
+use Rattle.abi_layout.specs.declared.desc_error.DescError.TheVariants as fault
+use Rattle.abi_det.proofs.Lawful.{size_bound}
+use Rattle.abi_layout.proofs.Sounding.{part_sound}
 use Rattle.abi_pack.specs.Agree.{Agree}
 use Rattle.abi_pack.specs.Image.{Image, AreBytes, bytes_of}
-use Rattle.abi_pack.specs.Laws.{bit_of, Holds, IsFree, IsImageOf, flipped, CanonicalLaw, UniqueLaw, FitLaw, HeldLaw, FlipLaw, FreeLaw, ChangeLaw, ItemLaw, PackedLaw, PackedCanonicalLaw, BackLaw}
+use Rattle.abi_pack.specs.Laws.{bit_of, Holds, flipped, CanonicalLaw, UniqueLaw, FitLaw, HeldLaw, FlipLaw, FreeLaw, ChangeLaw, ItemLaw, PackedLaw, BackLaw}
 use Rattle.abi_pack.specs.Packed.{packed}
 use Rattle.abi_pack.specs.Plain.{Plain}
-use Rattle.abi_pack.specs.Shape.{Shape, size}
-use Rattle.abi_pack.specs.Shows.{Shows, holds, IsCanonical}
-use Rattle.abi_pack.specs.Sound.{IsSound}
-use Rattle.abi_pack.specs.Told.{told}
+use Rattle.abi_pack.specs.Shows as shape
+use Rattle.abi_pack.specs.Values.{Shows, holds, fits, IsCanonical, IsImageOf}
 use Rattle.abi_pack.proofs.Agreed.{agree, same_held}
 use Rattle.abi_pack.proofs.Canons.{packed_canonical, packed_length, packed_small}
 use Rattle.abi_pack.proofs.Choice.{two_truths}
-use Rattle.abi_pack.proofs.Free.{free_not_held}
-use Rattle.abi_pack.proofs.Legal.{no_item}
-use Rattle.abi_pack.proofs.Telling.{shown_value, shown_where}
+use Rattle.abi_pack.proofs.Covering.{IsCovered, part_covered}
+use Rattle.abi_pack.proofs.TreeValues.{same_size, same_fits, same_shows, same_holds}
 use Rattle.abi_pack.proofs.Truths.{same_byte}
 use Rattle.abi_pack.proofs.Unique.{unique, shown_fits}
 
+-- ---- a description without a fault
+
+row_if : (row many : Bool) (rest : Option DescError) → cond (not row) (Some fault.BadTarget) (cond many (Some fault.TooManyParts) rest) ≡ None → (row ≡ true) × (rest ≡ None)
+row_if false many rest h = absurd (cc)
+row_if true true rest h = absurd (cc)
+row_if true false rest h = (refl, h)
+
+pub faultless_covered : (rules : Rules) (target : Target) (t : Tree) → desc_fault rules target t ≡ None → IsCovered (written_frame rules target t) (planned rules target t)
+unfolding desc_fault
+faultless_covered rules target t h =
+    let d = row_if (is_row target) (nat_lt 4096 (parts t)) (part_fault rules target 0 t) h in
+    part_covered rules target 0 t d.0 d.1
+
+pub faultless_small : (rules : Rules) (target : Target) (t : Tree) → desc_fault rules target t ≡ None → (written_frame rules target t).size ≤ 1048576
+unfolding desc_fault
+faultless_small rules target t h =
+    let d = row_if (is_row target) (nat_lt 4096 (parts t)) (part_fault rules target 0 t) h in
+    size_bound (written_frame rules target t) (part_sound rules target 0 t d.0 d.1).lawful
+
+-- ---- from the plan to the description
+
+pub tree_canonical : (rules : Rules) (target : Target) (t : Tree) (v : Plain) (f : Image) → AreBytes f → shape.IsCanonical (planned rules target t) v f
+    → IsCanonical rules target t v f
+tree_canonical rules target t v f b c = record {
+  shows = (same_shows rules target t v f b).1 c.shows;
+  clear = λ i k low small none. c.clear i k (rw (same_size rules target t) low) small (sym (same_holds rules target t v i k) ∙ none);
+}
+
+-- the bytes that writing leaves are the value's canonical ones
+pub packed_image : (rules : Rules) (target : Target) (t : Tree) (v : Plain) → desc_fault rules target t ≡ None → fits target t v ≡ true
+    → IsImageOf rules target t v (packed (planned rules target t) v)
+packed_image rules target t v none fit =
+    let s : Shape = planned rules target t in
+    let sound = (faultless_covered rules target t none).sound in
+    let fit_ : shape.fits s v ≡ true = sym (same_fits rules target t v) ∙ fit in
+    let bytes = packed_small s v sound fit_ in
+    record {
+      long = packed_length s v sound fit_ ∙ same_size rules target t;
+      bytes = bytes;
+      canonical = tree_canonical rules target t v (bytes_of (packed s v)) bytes (packed_canonical s v sound fit_);
+    }
+
+tree_held : (rules : Rules) (target : Target) (t : Tree) (v : Plain) (f g : Image) → desc_fault rules target t ≡ None → AreBytes f → AreBytes g
+    → Shows rules target t v f → Shows rules target t v g → Agree (λ i k. holds rules target t v i k) (written_frame rules target t).size f g
+tree_held rules target t v f g none bf bg hf hg i k low small held =
+    same_held (planned rules target t) v f g (faultless_covered rules target t none).sound ((same_shows rules target t v f bf).0 hf) ((same_shows rules target t v g bg).0 hg)
+    i k (rw (same_size rules target t) low) small (sym (same_holds rules target t v i k) ∙ held)
+
+tree_agree : (rules : Rules) (target : Target) (t : Tree) (v : Plain) (f g : Image) → desc_fault rules target t ≡ None → AreBytes f → AreBytes g
+    → Agree (λ i k. holds rules target t v i k) (written_frame rules target t).size f g → Shows rules target t v f → Shows rules target t v g
+tree_agree rules target t v f g none bf bg same hf =
+    (same_shows rules target t v g bg).1
+    (agree (planned rules target t) v f g (faultless_covered rules target t none).sound bf bg
+    (λ i k low small held. same i k (rw (same_size rules target t) at low) small (same_holds rules target t v i k ∙ held))
+    ((same_shows rules target t v f bf).0 hf))
+
 -- ---- bits by number
 
--- what holds of each bit by its number holds of each by byte and bit
 by_pair : (P : ℕ → ℕ → Type 0) (m : ℕ) → ((n : ℕ) → n < 8 * m → P (n / 8) (n % 8)) → (i k : ℕ) → i < m → k < 8 → P i k
 by_pair P m h i k low small =
     let byte : (8 * i + k) / 8 ≡ i = omega arith in
     let bit : (8 * i + k) % 8 ≡ k = omega arith in
     subst (λ j. P j k) byte (subst (λ l. P ((8 * i + k) / 8) l) bit (h (8 * i + k) (omega arith)))
 
-agree_numbered : (s : Shape) (v : Plain) (f g : Image) → ((n : ℕ) → n < 8 * size s → Holds s v n → bit_of f n ≡ bit_of g n) → Agree (λ i k. holds s v i k) (size s) f g
-agree_numbered s v f g h i k low small held = by_pair (λ j l. holds s v j l ≡ true → bit_at (f j) l ≡ bit_at (g j) l) (size s) h i k low small held
+agree_numbered : (rules : Rules) (target : Target) (t : Tree) (v : Plain) (f g : Image)
+    → ((n : ℕ) → n < 8 * (written_frame rules target t).size → Holds rules target t v n → bit_of f n ≡ bit_of g n)
+    → Agree (λ i k. holds rules target t v i k) (written_frame rules target t).size f g
+agree_numbered rules target t v f g h i k low small held =
+    by_pair (λ j l. holds rules target t v j l ≡ true → bit_at (f j) l ≡ bit_at (g j) l) (written_frame rules target t).size h i k low small held
 
 -- ---- the laws
 
 pub unique_law : UniqueLaw
-unique_law s v w f hv hw = unique s v w f hv hw
+unique_law rules target t v w f b hv hw =
+    unique (planned rules target t) v w f ((same_shows rules target t v f b).0 hv) ((same_shows rules target t w f b).0 hw)
 
 pub fit_law : FitLaw
-fit_law s v f h = shown_fits s v f h
+fit_law rules target t v f b h = same_fits rules target t v ∙ shown_fits (planned rules target t) v f ((same_shows rules target t v f b).0 h)
 
 pub item_law : ItemLaw
-item_law s v f h = no_item s v f h
+item_law rules target t v f none b h = (faultless_covered rules target t none).covers.items v f ((same_shows rules target t v f b).0 h)
 
 pub free_law : FreeLaw
-free_law s v n sound free held =
-    let none : holds s v (n / 8) (n % 8) ≡ false = free_not_held s v (n / 8) (n % 8) sound (omega arith) free in absurd (cc)
+free_law rules target t v n none free held =
+    let has_ = eq-eqb (bit_at (mask_at (written_frame rules target t).free (n / 8)) (n % 8)) 1 free in
+    let not_held : holds rules target t v (n / 8) (n % 8) ≡ false =
+    same_holds rules target t v (n / 8) (n % 8) ∙ (faultless_covered rules target t none).covers.free v (n / 8) (n % 8) (omega arith) has_ in absurd (cc)
 
-canonical_bit : (s : Shape) (v : Plain) (f g : Image) → IsSound s → IsCanonical s v f → IsCanonical s v g → (i k : ℕ) → i < size s → k < 8
-    → (holds s v i k ≡ true) ⊎ (holds s v i k ≡ false) → bit_at (f i) k ≡ bit_at (g i) k
-canonical_bit s v f g sound cf cg i k low small (inl held) = same_held s v f g sound cf.shows cg.shows i k low small held
-canonical_bit s v f g sound cf cg i k low small (inr none) = cf.clear i k low small none ∙ sym (cg.clear i k low small none)
+canonical_bit : (rules : Rules) (target : Target) (t : Tree) (v : Plain) (f g : Image) → desc_fault rules target t ≡ None → AreBytes f → AreBytes g
+    → IsCanonical rules target t v f → IsCanonical rules target t v g → (i k : ℕ) → i < (written_frame rules target t).size → k < 8
+    → (holds rules target t v i k ≡ true) ⊎ (holds rules target t v i k ≡ false) → bit_at (f i) k ≡ bit_at (g i) k
+canonical_bit rules target t v f g none bf bg cf cg i k low small (inl held) = tree_held rules target t v f g none bf bg cf.shows cg.shows i k low small held
+canonical_bit rules target t v f g none bf bg cf cg i k low small (inr free) = cf.clear i k low small free ∙ sym (cg.clear i k low small free)
 
-pub one_image : (s : Shape) (v : Plain) (bs cs : List ℕ) → IsSound s → IsImageOf s v bs → IsImageOf s v cs → bs ≡ cs
-one_image s v bs cs sound b c =
-    ext_get_or 0 bs cs (b.string.long ∙ sym c.string.long)
-    (λ i h. let low : i < size s = rw b.string.long at h in
-    same_byte (get_or bs i 0) (get_or cs i 0) (b.string.bytes i) (c.string.bytes i)
-    (λ k small. canonical_bit s v (bytes_of bs) (bytes_of cs) sound b.canonical c.canonical i k low small (two_truths (holds s v i k))))
-
-pub packed_image : PackedCanonicalLaw
-packed_image s v sound fit = record {
-  string = record { long = packed_length s v sound fit; bytes = packed_small s v sound fit };
-  canonical = packed_canonical s v sound fit;
-}
+pub one_image : (rules : Rules) (target : Target) (t : Tree) (v : Plain) (bs cs : List ℕ) → desc_fault rules target t ≡ None
+    → IsImageOf rules target t v bs → IsImageOf rules target t v cs → bs ≡ cs
+one_image rules target t v bs cs none b c =
+    ext_get_or 0 bs cs (b.long ∙ sym c.long)
+    (λ i h. let low : i < (written_frame rules target t).size = rw b.long at h in
+    same_byte (get_or bs i 0) (get_or cs i 0) (b.bytes i) (c.bytes i)
+    (λ k small. canonical_bit rules target t v (bytes_of bs) (bytes_of cs) none b.bytes c.bytes b.canonical c.canonical i k low small (two_truths (holds rules target t v i k))))
 
 pub canonical_law : CanonicalLaw
-canonical_law s v sound fit =
-    (packed s v, packed_image s v sound fit, λ cs c. one_image s v cs (packed s v) sound c (packed_image s v sound fit))
+canonical_law rules target t v none fit =
+    let bs : List ℕ = packed (planned rules target t) v in
+    let is = packed_image rules target t v none fit in (bs, is, λ cs c. one_image rules target t v cs bs none c is)
 
 pub held_law : HeldLaw
-held_law s v bs cs sound c b = (
-  λ shown n low held. same_held s v (bytes_of bs) (bytes_of cs) sound shown c.canonical.shows (n / 8) (n % 8) (omega arith) (omega arith) held,
-  λ same. agree s v (bytes_of cs) (bytes_of bs) sound c.string.bytes b.bytes
-      (agree_numbered s v (bytes_of cs) (bytes_of bs) (λ n low held. sym (same n low held))) c.canonical.shows,
+held_law rules target t v bs cs none c long b = (
+  λ shown n low held. tree_held rules target t v (bytes_of bs) (bytes_of cs) none b c.bytes shown c.canonical.shows (n / 8) (n % 8) (omega arith) (omega arith) held,
+  λ same. tree_agree rules target t v (bytes_of cs) (bytes_of bs) none c.bytes b
+      (agree_numbered rules target t v (bytes_of cs) (bytes_of bs) (λ n low held. sym (same n low held))) c.canonical.shows,
 )
 
-not_free : (s : Shape) (v : Plain) (n : ℕ) → IsSound s → Holds s v n → IsFree s n → ⊥
-not_free s v n sound held free = free_law s v n sound free held
-
 pub change_law : ChangeLaw
-change_law s v f g sound fb gb shown same =
-    agree s v f g sound fb gb (agree_numbered s v f g (λ n low held. same n low (λ free. not_free s v n sound held free))) shown
+change_law rules target t v f g none fb gb shown same =
+    tree_agree rules target t v f g none fb gb
+    (agree_numbered rules target t v f g (λ n low held. same n low (λ free. free_law rules target t v n none free held))) shown
 
 pub packed_law : PackedLaw
-packed_law s v w bs cs sound b c = (
-  λ same. unique s v w (bytes_of bs) b.canonical.shows (subst (λ xs. Shows s w (bytes_of xs)) (sym same) c.canonical.shows),
-  λ same. one_image s v bs cs sound b (subst (λ x. IsImageOf s x cs) (sym same) c),
+packed_law rules target t v w bs cs none b c = (
+  λ same. unique_law rules target t v w (bytes_of bs) b.bytes b.canonical.shows (subst (λ xs. Shows rules target t w (bytes_of xs)) (sym same) c.canonical.shows),
+  λ same. one_image rules target t v bs cs none b (subst (λ x. IsImageOf rules target t x cs) (sym same) c),
+)
+
+pub back_law : BackLaw
+back_law rules target t v w bs b = (
+  λ h. unique_law rules target t w v (bytes_of bs) b.bytes h b.canonical.shows,
+  λ e. subst (λ x. Shows rules target t x (bytes_of bs)) (sym e) b.canonical.shows,
 )
 
 -- ---- one bit turned over
@@ -107,6 +181,9 @@ flipped_byte : (f : Image) (n i : ℕ) → AreBytes f → AtPlace i (n / 8) → 
 flipped_byte f n i b (inl e) = rw (turned f n i e.0) (xor_lt 8 (f i) (2 ^ (n % 8)) (b i) (pow_below (n % 8) 8 (omega arith)))
 flipped_byte f n i b (inr e) = rw (kept f n i e.0) (b i)
 
+flipped_bytes : (f : Image) (n : ℕ) → AreBytes f → AreBytes (flipped n f)
+flipped_bytes f n b i = flipped_byte f n i b (eqb_tells i (n / 8))
+
 other_bit : (x b k : ℕ) → k ≢ b → bit_at (bit_xor x (2 ^ b)) k ≡ bit_at x k
 other_bit x b k h =
     let bit : bit_at x k < 2 = bit_at-lt x k in rw (bit_at_xor x (2 ^ b) k, bit_at-pow_other b k h) (omega arith)
@@ -123,31 +200,25 @@ flipped_other f n i k apart (inr e) = rw (kept f n i e.0) refl
 same_place : (m : ℕ) → (m == m) ≡ true
 same_place m = grind (arith, nat_tests)
 
-flip_held : (s : Shape) (v : Plain) (f : Image) (n : ℕ) → IsSound s → n < 8 * size s → Shows s v f → Holds s v n → Shows s v (flipped n f) → ⊥
-flip_held s v f n sound low shown held after =
+flip_held : (rules : Rules) (target : Target) (t : Tree) (v : Plain) (f : Image) (n : ℕ) → desc_fault rules target t ≡ None → AreBytes f
+    → n < 8 * (written_frame rules target t).size → Shows rules target t v f → Holds rules target t v n → Shows rules target t v (flipped n f) → ⊥
+flip_held rules target t v f n none bytes low shown held after =
     let same : bit_at (f (n / 8)) (n % 8) ≡ bit_at (flipped n f (n / 8)) (n % 8) =
-    same_held s v f (flipped n f) sound shown after (n / 8) (n % 8) (omega arith) (omega arith) held in
+    tree_held rules target t v f (flipped n f) none bytes (flipped_bytes f n bytes) shown after (n / 8) (n % 8) (omega arith) (omega arith) held in
     own_bit (f (n / 8)) (n % 8) (rw (turned f n (n / 8) (same_place (n / 8))) at same)
 
-flip_free : (s : Shape) (v : Plain) (f : Image) (n : ℕ) → IsSound s → AreBytes f → n < 8 * size s → Shows s v f
-    → (holds s v (n / 8) (n % 8) ≡ true) ⊎ (holds s v (n / 8) (n % 8) ≡ false) → (Shows s v (flipped n f) → ⊥) → Holds s v n
-flip_free s v f n sound bytes low shown (inl held) lost = held
-flip_free s v f n sound bytes low shown (inr none) lost =
-    absurd (lost (agree s v f (flipped n f) sound bytes (λ i. flipped_byte f n i bytes (eqb_tells i (n / 8)))
+flip_free : (rules : Rules) (target : Target) (t : Tree) (v : Plain) (f : Image) (n : ℕ) → desc_fault rules target t ≡ None → AreBytes f
+    → n < 8 * (written_frame rules target t).size → Shows rules target t v f
+    → (holds rules target t v (n / 8) (n % 8) ≡ true) ⊎ (holds rules target t v (n / 8) (n % 8) ≡ false) → (Shows rules target t v (flipped n f) → ⊥) → Holds rules target t v n
+flip_free rules target t v f n none bytes low shown (inl held) lost = held
+flip_free rules target t v f n none bytes low shown (inr free) lost =
+    absurd (lost (tree_agree rules target t v f (flipped n f) none bytes (flipped_bytes f n bytes)
     (λ i k l small held. flipped_other f n i k (λ a b. never i k held a b) (eqb_tells i (n / 8))) shown))
   where
-    never : (i k : ℕ) → holds s v i k ≡ true → i ≡ n / 8 → k ≡ n % 8 → ⊥
-    never i k held a b = let same : holds s v (n / 8) (n % 8) ≡ true = subst (λ j. holds s v j (n % 8) ≡ true) a (subst (λ l. holds s v i l ≡ true) b held) in absurd (cc)
+    never : (i k : ℕ) → holds rules target t v i k ≡ true → i ≡ n / 8 → k ≡ n % 8 → ⊥
+    never i k held a b =
+        let same : holds rules target t v (n / 8) (n % 8) ≡ true = subst (λ j. holds rules target t v j (n % 8) ≡ true) a (subst (λ l. holds rules target t v i l ≡ true) b held) in absurd (cc)
 
 pub flip_law : FlipLaw
-flip_law s v f n sound bytes low shown =
-    (λ held after. flip_held s v f n sound low shown held after, λ lost. flip_free s v f n sound bytes low shown (two_truths (holds s v (n / 8) (n % 8))) lost)
-
-pub back_law : BackLaw
-back_law s v sound fit =
-    let f : Image = bytes_of (packed s v) in
-    let shows : Shows s v f = (packed_canonical s v sound fit).shows in
-    let shown = shown_where s v f shows in (
-      shown,
-      unique s (told s f) v f (shown_value s f (packed_small s v sound fit) shown) shows,
-    )
+flip_law rules target t v f n none bytes low shown =
+    (λ held after. flip_held rules target t v f n none bytes low shown held after, λ lost. flip_free rules target t v f n none bytes low shown (two_truths (holds rules target t v (n / 8) (n % 8))) lost)

@@ -4,7 +4,7 @@ use Rattle.std.proofs.Math.Nat.{pow-succ'}
 use Rattle.std.proofs.lemmas.List.{reverse-reverse, length-reverse, get_or-reverse}
 use Rattle.std.proofs.lemmas.Bool.{cases_lt}
 use Rattle.std.proofs.Math.ListN.{get_or-eq_default}
-use Rattle.abi_pack.specs.Form.{low_bytes, low_worth, ordered}
+use Rattle.abi_pack.specs.Scalars.{low_bytes, low_worth, ordered}
 
 abbrev pub AllBytes : List ℕ → Type 0
 AllBytes xs = (i : ℕ) → get_or xs i 0 < 256

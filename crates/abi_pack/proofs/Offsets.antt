@@ -1,5 +1,5 @@
 -- Parts that stand at an offset in bytes.
-use Rattle.std.proofs.Common.{◌≡◌, ℕ, ◌+◌, List, [], ◌∷◌, ◌++◌, ◌-◌, ◌≤◌, length, take, drop, length-drop, Bool, true, false, cond, ◌&&◌, refl, ap, ◌∙◌, sym, arith}
+use Rattle.std.proofs.Common.{◌≡◌, ℕ, ◌+◌, List, [], ◌∷◌, ◌++◌, ◌-◌, ◌≤◌, length, take, drop, length-drop, Bool, ◌&&◌, refl, ap, ◌∙◌, sym, subst, arith}
 use mathlib.Core.Path.{fun_ext}
 use Rattle.std.proofs.lemmas.List.{get_or-drop}
 use Rattle.std.proofs.Math.Seq.{take-length}
@@ -9,19 +9,21 @@ use Rattle.abi_det.specs.State.{is_state_ok, IsCovered}
 use Rattle.abi_det.specs.declared.determinant.Determinant.{Determinant}
 use Rattle.abi_pack.specs.Image.{Image, from, bytes_of}
 use Rattle.abi_pack.specs.Plain.{Plain, Plains, list, variant, end, more}
-use Rattle.abi_pack.specs.Shape.{size}
+use Rattle.abi_layout.specs.Shape.{Shape, sum, size}
+use Rattle.abi_pack.specs.Shows.{start_of}
+use Rattle.abi_layout.specs.Trees.{sides}
 use Rattle.abi_pack.specs.Sound.{IsSound}
 use Rattle.abi_pack.specs.Told.{is_shown, is_shown_in, told, told_in}
 use Rattle.abi_pack.specs.View.{shape, shapes, plain, plains, joined}
-use Rattle.abi_pack.specs.declared.part.Sort.{Sort}
-use Rattle.abi_pack.specs.declared.part.Spot.{Spot}
-use Rattle.abi_pack.specs.declared.part.PartField.{PartField}
-use Rattle.abi_pack.specs.declared.part.Part.{Part}
-use Rattle.abi_pack.specs.declared.part.Part.TheVariants as part
+use Rattle.abi_layout.specs.declared.part.Sort.{Sort}
+use Rattle.abi_layout.specs.declared.part.Spot.{Spot}
+use Rattle.abi_layout.specs.declared.part.PartField.{PartField}
+use Rattle.abi_layout.specs.declared.part.Part.{Part}
+use Rattle.abi_layout.specs.declared.part.Part.TheVariants as part
 use Rattle.abi_pack.specs.declared.value.Value.{Value}
 use Rattle.abi_pack.specs.declared.value.Value.TheVariants as value
 use Rattle.abi_pack.proofs.Views.{shape_sum, plain_list}
-use Rattle.abi_pack.proofs.Steps.{struct_is, sum_covered_at}
+use Rattle.abi_pack.proofs.Steps.{struct_is, sum_covered}
 
 pub from_from : (f : Image) (x at o : ℕ) → x ≡ at + o → from x f ≡ from o (from at f)
 from_from f x at o e = fun_ext (λ i. ap f (omega arith))
@@ -34,36 +36,43 @@ state_at d xs at b e = sym (e ∙ ap (is_state_ok d) (dropped xs at))
 
 -- ---- a sum
 
-pub shown_sum : (p : Part) (names : Sort) (a b : Box Part Global) (at : Spot) (first : Bool) (f : Image) (o : ℕ) (r : Bool)
-    → p ≡ part.Sum names a b at → is_state_ok at.determinant (from o f) ≡ first
-    → r ≡ cond first (is_shown (shape a.value) (from (o + at.ok) f)) (is_shown (shape b.value) (from (o + at.err) f))
-    → r ≡ is_shown (shape p) (from o f)
-shown_sum p names a b at true f o r e state is =
-    rw (e, shape_sum names a b at, state) (is ∙ ap (is_shown (shape a.value)) (from_from f (o + at.ok) o at.ok refl))
-shown_sum p names a b at false f o r e state is =
-    rw (e, shape_sum names a b at, state) (is ∙ ap (is_shown (shape b.value)) (from_from f (o + at.err) o at.err refl))
+shown_state : (names : Sort) (side : Bool → Shape) (at : Spot) (first : Bool) (g : Image) → is_state_ok at.determinant g ≡ first
+    → is_shown (side first) (from (start_of at first) g) ≡ is_shown (sum names side at) g
+shown_state names side at first g e = subst (λ b. is_shown (side b) (from (start_of at b) g) ≡ is_shown (sum names side at) g) e refl
 
-pub told_sum : (p : Part) (names : Sort) (a b : Box Part Global) (at : Spot) (first : Bool) (f : Image) (o : ℕ) (v : Plain)
-    → p ≡ part.Sum names a b at → is_state_ok at.determinant (from o f) ≡ first
-    → v ≡ cond first (told (shape a.value) (from (o + at.ok) f)) (told (shape b.value) (from (o + at.err) f))
-    → variant names first v ≡ told (shape p) (from o f)
-told_sum p names a b at true f o v e state is =
-    rw (e, shape_sum names a b at, state) (ap (variant names true) (is ∙ ap (told (shape a.value)) (from_from f (o + at.ok) o at.ok refl)))
-told_sum p names a b at false f o v e state is =
-    rw (e, shape_sum names a b at, state) (ap (variant names false) (is ∙ ap (told (shape b.value)) (from_from f (o + at.err) o at.err refl)))
+told_state : (names : Sort) (side : Bool → Shape) (at : Spot) (first : Bool) (g : Image) → is_state_ok at.determinant g ≡ first
+    → variant names first (told (side first) (from (start_of at first) g)) ≡ told (sum names side at) g
+told_state names side at first g e =
+    subst (λ b. variant names b (told (side b) (from (start_of at b) g)) ≡ told (sum names side at) g) e refl
+
+pub shown_sum : (p q : Part) (names : Sort) (a b : Box Part Global) (at : Spot) (first : Bool) (f : Image) (o x : ℕ) (r : Bool)
+    → p ≡ part.Sum names a b at → shape q ≡ sides (shape a.value) (shape b.value) first → is_state_ok at.determinant (from o f) ≡ first
+    → x ≡ o + start_of at first → r ≡ is_shown (shape q) (from x f) → r ≡ is_shown (shape p) (from o f)
+shown_sum p q names a b at first f o x r e side state ex is =
+    let side_ : Bool → Shape = sides (shape a.value) (shape b.value) in
+    is ∙ rw (side, from_from f x o (start_of at first) ex) (shown_state names side_ at first (from o f) state)
+    ∙ sym (ap (λ s. is_shown s (from o f)) (ap shape e ∙ shape_sum names a b at))
+
+pub told_sum : (p q : Part) (names : Sort) (a b : Box Part Global) (at : Spot) (first : Bool) (f : Image) (o x : ℕ) (v : Plain)
+    → p ≡ part.Sum names a b at → shape q ≡ sides (shape a.value) (shape b.value) first → is_state_ok at.determinant (from o f) ≡ first
+    → x ≡ o + start_of at first → v ≡ told (shape q) (from x f) → variant names first v ≡ told (shape p) (from o f)
+told_sum p q names a b at first f o x v e side state ex is =
+    let side_ : Bool → Shape = sides (shape a.value) (shape b.value) in
+    ap (variant names first) is ∙ rw (side, from_from f x o (start_of at first) ex) (told_state names side_ at first (from o f) state)
+    ∙ sym (ap (λ s. told s (from o f)) (ap shape e ∙ shape_sum names a b at))
 
 -- ---- fields
 
-pub shown_fields : (all fields : List PartField) (one : PartField) (free tail : ℕ) (f : Image) (o x y : ℕ) (p q : Bool) → all ≡ one ∷ fields
-    → x ≡ o + one.gap → y ≡ x + size (shape one.part) → p ≡ is_shown (shape one.part) (from x f) → q ≡ is_shown_in (shapes free tail fields) (from y f)
-    → (p && q) ≡ is_shown_in (shapes free tail all) (from o f)
-shown_fields all fields one free tail f o x y p q e ex ey first rest =
+pub shown_fields : (all fields : List PartField) (one : PartField) (f : Image) (o x y : ℕ) (p q : Bool) → all ≡ one ∷ fields
+    → x ≡ o + one.gap → y ≡ x + size (shape one.part) → p ≡ is_shown (shape one.part) (from x f) → q ≡ is_shown_in (shapes fields) (from y f)
+    → (p && q) ≡ is_shown_in (shapes all) (from o f)
+shown_fields all fields one f o x y p q e ex ey first rest =
     rw (e, first, rest, from_from f x o one.gap ex, from_from f y o (one.gap + size (shape one.part)) (omega arith)) refl
 
-pub told_fields : (all fields : List PartField) (one : PartField) (free tail : ℕ) (f : Image) (o x y : ℕ) → all ≡ one ∷ fields
+pub told_fields : (all fields : List PartField) (one : PartField) (f : Image) (o x y : ℕ) → all ≡ one ∷ fields
     → x ≡ o + one.gap → y ≡ x + size (shape one.part)
-    → told_in (shapes free tail all) (from o f) ≡ more (told (shape one.part) (from x f)) (told_in (shapes free tail fields) (from y f))
-told_fields all fields one free tail f o x y e ex ey =
+    → told_in (shapes all) (from o f) ≡ more (told (shape one.part) (from x f)) (told_in (shapes fields) (from y f))
+told_fields all fields one f o x y e ex ey =
     rw (e, from_from f x o one.gap ex, from_from f y o (one.gap + size (shape one.part)) (omega arith)) refl
 
 -- ---- the rest of the bytes from an offset on
@@ -76,7 +85,9 @@ state_rest d xs at b e = state_at d xs at b (rw (rest_whole xs at) at e)
 
 pub covered_rest : (p : Part) (names : Sort) (a b : Box Part Global) (at : Spot) (o : ℕ) (xs : List ℕ) → p ≡ part.Sum names a b at → IsSound (shape p) → o + size (shape p) ≤ length xs
     → IsCovered at.determinant.test (length (take (length xs - o) (drop o xs)))
-covered_rest p names a b at o xs e sound within = rw (rest_whole xs o) (sum_covered_at p names a b at o xs e sound within)
+covered_rest p names a b at o xs e sound within =
+    let long : length (drop o xs) ≡ length xs - o = length-drop o xs in
+    rw (rest_whole xs o) (sum_covered p names a b at (length (drop o xs)) e sound (omega arith))
 
 -- ---- values read one after another
 
@@ -88,15 +99,15 @@ pub joined_push : (vs : List Value) (v : Value) (rest : Plains) → joined (vs +
 joined_push [] v rest = refl
 joined_push (w ∷ vs) v rest = ap (more (plain w)) (joined_push vs v rest)
 
-pub read_step : (old new pushed : List Value) (v : Value) (all fields : List PartField) (one : PartField) (free tail : ℕ) (f : Image) (o x y : ℕ)
+pub read_step : (old new pushed : List Value) (v : Value) (all fields : List PartField) (one : PartField) (f : Image) (o x y : ℕ)
     → pushed ≡ old ++ v ∷ [] → plain v ≡ told (shape one.part) (from x f) → all ≡ one ∷ fields → x ≡ o + one.gap → y ≡ x + size (shape one.part)
-    → joined new end ≡ joined pushed (told_in (shapes free tail fields) (from y f))
-    → joined new end ≡ joined old (told_in (shapes free tail all) (from o f))
-read_step old new pushed v all fields one free tail f o x y is value cons ex ey rest =
-    rest ∙ rw is (joined_push old v (told_in (shapes free tail fields) (from y f)))
-    ∙ ap (joined old) (ap (λ w. more w (told_in (shapes free tail fields) (from y f))) value ∙ sym (told_fields all fields one free tail f o x y cons ex ey))
+    → joined new end ≡ joined pushed (told_in (shapes fields) (from y f))
+    → joined new end ≡ joined old (told_in (shapes all) (from o f))
+read_step old new pushed v all fields one f o x y is value cons ex ey rest =
+    rest ∙ rw is (joined_push old v (told_in (shapes fields) (from y f)))
+    ∙ ap (joined old) (ap (λ w. more w (told_in (shapes fields) (from y f))) value ∙ sym (told_fields all fields one f o x y cons ex ey))
 
-pub told_list : (vs old : List Value) (p : Part) (fields all : List PartField) (free tail : ℕ) (f : Image) → p ≡ part.Struct all free tail → fields ≡ all → old ≡ []
-    → joined vs end ≡ joined old (told_in (shapes free tail fields) f) → plain (value.List vs) ≡ told (shape p) f
-told_list vs old p fields all free tail f e same none is =
-    plain_list vs ∙ ap list (sym (joined_end vs) ∙ rw none at is) ∙ sym (ap (λ s. told s f) (struct_is p fields all free tail e same))
+pub told_list : (vs old : List Value) (p : Part) (fields all : List PartField) (n : ℕ) (f : Image) → p ≡ part.Struct all n → fields ≡ all → old ≡ []
+    → joined vs end ≡ joined old (told_in (shapes fields) f) → plain (value.List vs) ≡ told (shape p) f
+told_list vs old p fields all n f e same none is =
+    plain_list vs ∙ ap list (sym (joined_end vs) ∙ rw none at is) ∙ sym (ap (λ s. told s f) (struct_is p fields all n e same))

@@ -1,64 +1,107 @@
--- From what the functions compute to what the calls of a plan promise.
-use Rattle.std.proofs.Common.{◌≡◌, ℕ, List, length, Bool, true, false, ap, ◌∙◌, sym, subst, arith}
+-- From what the functions compute to what the calls of a plan promise. q is the plan as it is kept, p as contracts see it.
+use Rattle.std.proofs.Common.{◌≡◌, ◌↔◌, ℕ, ◌≤◌, List, None, length, Bool, true, false, ap, ◌∙◌, sym, subst, arith}
 use mathlib.Core.Path.{fun_ext}
+use Rattle.abi_num.specs.declared.target.Target.{Target}
+use Rattle.abi_det.specs.Offers.{Rules}
+use Rattle.abi_layout.specs.Faults.{desc_fault}
+use Rattle.abi_layout.specs.Frames.{written_frame}
+use Rattle.abi_layout.specs.PartView.{shape}
+use Rattle.abi_layout.specs.Plans.{planned, IsNamed}
+use Rattle.abi_layout.specs.Shape.{Shape, size}
+use Rattle.abi_layout.specs.Trees.{Tree}
 use Rattle.abi_pack.specs.Image.{Image, AreBytes, from, bytes_of}
+use Rattle.abi_pack.specs.Packed.{packed}
+use Rattle.abi_pack.specs.Packing.{Packing, IsPlanOf, OfPlan, IsSomePlan}
 use Rattle.abi_pack.specs.Plain.{Plain}
 use Rattle.abi_pack.specs.Planned.{IsPlanned}
-use Rattle.abi_pack.specs.View.{shape}
-use Rattle.abi_pack.specs.declared.part.Part.{Part}
-use Rattle.abi_pack.specs.Packed.{packed}
-use Rattle.abi_pack.specs.Shape.{Shape, size}
-use Rattle.abi_pack.specs.Shows.{Shows, fits, IsCanonical}
-use Rattle.abi_pack.specs.Sound.{IsSound}
+use Rattle.abi_pack.specs.Reading.{IsShown}
+use Rattle.abi_pack.specs.Shows as of_shape
 use Rattle.abi_pack.specs.Told.{is_shown, told}
-use Rattle.abi_pack.proofs.Canons.{packed_canonical}
-use Rattle.abi_pack.specs.Laws.{IsImageOf}
-use Rattle.abi_pack.proofs.Lawful.{packed_image}
+use Rattle.abi_pack.specs.Values.{fits, Shows, IsLong, IsImageOf}
+use Rattle.abi_pack.proofs.Lawful.{faultless_covered, faultless_small, packed_image}
 use Rattle.abi_pack.proofs.Telling.{shown_value, shown_where}
+use Rattle.abi_pack.proofs.TreeValues.{same_size, same_fits, same_shows}
 
 pub from_zero : (f : Image) → from 0 f ≡ f
 from_zero f = fun_ext (λ i. ap f (omega arith))
 
-pub written_canonical : (s : Shape) (v : Plain) (out : List ℕ) → IsSound s → fits s v ≡ true → out ≡ packed s v → IsCanonical s v (bytes_of out)
-written_canonical s v out sound fit e = rw e (packed_canonical s v sound fit)
+-- the part of a description without a fault keeps what every plan's keeps
+pub plan_kept : (rules : Rules) (target : Target) (t : Tree) (s : Shape) → desc_fault rules target t ≡ None → s ≡ planned rules target t → IsNamed s → IsPlanned s
+plan_kept rules target t s none is named =
+    let small : (written_frame rules target t).size ≤ 1048576 = faultless_small rules target t none in
+    let same = same_size rules target t in
+    record { sound = rw is (faultless_covered rules target t none).sound; named = named; small = rw is (omega (arith, small, same)) }
 
-pub told_shows : (s : Shape) (v : Plain) (f : Image) → AreBytes f → is_shown s (from 0 f) ≡ true → v ≡ told s (from 0 f) → Shows s v f
-told_shows s v f bytes shown e = rw e (subst (λ g. Shows s (told s g) f) (sym (from_zero f)) (shown_value s f bytes (rw (from_zero f) at shown)))
+pub plan_fits : (q p : Packing) (v : Plain) (r : Bool) → q ≡ p → r ≡ of_shape.fits (shape q.part) v → OfPlan p (λ _ target t. r ≡ fits target t v)
+plan_fits q p v r e is =
+    subst (λ x. OfPlan x (λ _ target t. r ≡ fits target t v)) e
+    (λ rules target t of. is ∙ ap (λ s. of_shape.fits s v) of.part ∙ sym (same_fits rules target t v))
 
-pub some_shown : (s : Shape) (f : Image) → AreBytes f → is_shown s (from 0 f) ≡ true → (v : Plain) × Shows s v f
-some_shown s f bytes shown = (told s f, shown_value s f bytes (rw (from_zero f) at shown))
+-- a value that fits may be written
+pub plan_value : (q p : Packing) (v : Plain) → q ≡ p → IsSomePlan q → OfPlan p (λ _ target t. fits target t v ≡ true) → of_shape.fits (shape q.part) v ≡ true
+plan_value q p v e some fit =
+    let fit_ : OfPlan q (λ _ target t. fits target t v ≡ true) = subst (λ x. OfPlan x (λ _ target t. fits target t v ≡ true)) (sym e) fit in
+    let of = some.1.1.1 in
+    ap (λ s. of_shape.fits s v) of.part ∙ sym (same_fits some.0 some.1.0 some.1.1.0 v) ∙ fit_ some.0 some.1.0 some.1.1.0 of
 
-pub none_shown : (s : Shape) (v : Plain) (f : Image) → is_shown s (from 0 f) ≡ false → Shows s v f → ⊥
-none_shown s v f none shown =
-    let some : is_shown s f ≡ true = shown_where s v f shown in
-    let lost : is_shown s f ≡ false = rw (from_zero f) at none in absurd (cc)
+-- there is room where there are as many bytes as the layout has
+pub plan_room : (q p : Packing) (n : ℕ) → q ≡ p → IsSomePlan q → n ≡ p.layout.size → n ≡ size (shape q.part)
+plan_room q p n e some long =
+    let of = some.1.1.1 in
+    long ∙ ap (λ (x : Packing). x.layout.size) (sym e) ∙ ap (λ f. f.size) of.layout ∙ sym (same_size some.0 some.1.0 some.1.1.0) ∙ sym (ap size of.part)
 
-pub shown_from : (s : Shape) (v : Plain) (f : Image) → Shows s v f → is_shown s (from 0 f) ≡ true
-shown_from s v f shown = rw (from_zero f) (shown_where s v f shown)
+pub plan_written : (q p : Packing) (v : Plain) (out : List ℕ) → q ≡ p → OfPlan p (λ _ target t. fits target t v ≡ true) → out ≡ packed (shape q.part) v
+    → OfPlan p (λ rules target t. IsImageOf rules target t v out)
+plan_written q p v out e fit is rules target t of =
+    let same : out ≡ packed (planned rules target t) v = is ∙ ap (λ (x : Packing). packed (shape x.part) v) e ∙ ap (λ s. packed s v) of.part in
+    rw same (packed_image rules target t v of.faultless (fit rules target t of))
 
--- ---- the same of a plan: p is the part that it keeps, q what contracts see of it
+plan_length : (q p : Packing) (bs : List ℕ) (rules : Rules) (target : Target) (t : Tree) → q ≡ p → IsPlanOf p rules target t → (length bs ≡ size (shape q.part)) ↔ IsLong rules target t bs
+plan_length q p bs rules target t e of =
+    let n : size (shape q.part) ≡ (written_frame rules target t).size = ap (λ (x : Packing). size (shape x.part)) e ∙ ap size of.part ∙ same_size rules target t in
+    (λ h. h ∙ n, λ h. h ∙ sym n)
 
-pub plan_written : (p q : Part) (v : Plain) (out : List ℕ) → p ≡ q → IsPlanned (shape p) → fits (shape q) v ≡ true → out ≡ packed (shape p) v
-    → IsCanonical (shape q) v (bytes_of out)
-plan_written p q v out e planned fit is =
-    subst (λ r. fits (shape r) v ≡ true → IsCanonical (shape r) v (bytes_of out)) e (λ fit_. written_canonical (shape p) v out planned.0 fit_ is) fit
+plan_shows : (q p : Packing) (v : Plain) (f : Image) (rules : Rules) (target : Target) (t : Tree) → q ≡ p → IsPlanOf p rules target t → AreBytes f
+    → of_shape.Shows (shape q.part) v f ↔ Shows rules target t v f
+plan_shows q p v f rules target t e of bytes =
+    let is : shape q.part ≡ planned rules target t = ap (λ (x : Packing). shape x.part) e ∙ of.part in
+    let same = same_shows rules target t v f bytes in
+    (λ h. same.1 (subst (λ s. of_shape.Shows s v f) is h), λ h. subst (λ s. of_shape.Shows s v f) (sym is) (same.0 h))
 
-pub plan_image : (p q : Part) (v : Plain) (out : List ℕ) → p ≡ q → IsPlanned (shape p) → fits (shape q) v ≡ true → out ≡ packed (shape p) v → IsImageOf (shape q) v out
-plan_image p q v out e planned fit is =
-    subst (λ r. fits (shape r) v ≡ true → IsImageOf (shape r) v out) e (λ fit_. rw is (packed_image (shape p) v planned.0 fit_)) fit
+-- ---- reading
 
-pub plan_length : (p q : Part) (bs : List ℕ) (n : ℕ) → p ≡ q → length bs ≡ n → n ≡ size (shape p) → length bs ≡ size (shape q)
-plan_length p q bs n e long is = long ∙ is ∙ ap (λ r. size (shape r)) e
+pub plan_read : (q p : Packing) (v : Plain) (bs : List ℕ) → q ≡ p → AreBytes (bytes_of bs) → length bs ≡ size (shape q.part) → true ≡ is_shown (shape q.part) (from 0 (bytes_of bs))
+    → v ≡ told (shape q.part) (from 0 (bytes_of bs)) → OfPlan p (λ rules target t. IsLong rules target t bs × Shows rules target t v (bytes_of bs))
+plan_read q p v bs e bytes long shown is rules target t of =
+    let f : Image = bytes_of bs in
+    let there : is_shown (shape q.part) f ≡ true = rw (from_zero f) at (sym shown) in
+    let value : v ≡ told (shape q.part) f = rw (from_zero f) at is in
+    ((plan_length q p bs rules target t e of).0 long, (plan_shows q p v f rules target t e of bytes).0 (rw value (shown_value (shape q.part) f bytes there)))
 
-pub plan_read : (p q : Part) (v : Plain) (bs : List ℕ) → p ≡ q → AreBytes (bytes_of bs) → true ≡ is_shown (shape p) (from 0 (bytes_of bs))
-    → v ≡ told (shape p) (from 0 (bytes_of bs)) → Shows (shape q) v (bytes_of bs)
-plan_read p q v bs e bytes shown is = subst (λ r. Shows (shape r) v (bytes_of bs)) e (told_shows (shape p) v (bytes_of bs) bytes (sym shown) is)
+pub plan_shown : (q p : Packing) (bs : List ℕ) → q ≡ p → AreBytes (bytes_of bs) → length bs ≡ size (shape q.part) → true ≡ is_shown (shape q.part) (from 0 (bytes_of bs))
+    → OfPlan p (λ rules target t. IsShown rules target t bs)
+plan_shown q p bs e bytes long shown rules target t of =
+    let f : Image = bytes_of bs in
+    let there : is_shown (shape q.part) f ≡ true = rw (from_zero f) at (sym shown) in
+    let v : Plain = told (shape q.part) f in
+    ((plan_length q p bs rules target t e of).0 long, (v, (plan_shows q p v f rules target t e of bytes).0 (shown_value (shape q.part) f bytes there)))
 
-pub plan_shown : (p q : Part) (bs : List ℕ) → p ≡ q → AreBytes (bytes_of bs) → true ≡ is_shown (shape p) (from 0 (bytes_of bs)) → (v : Plain) × Shows (shape q) v (bytes_of bs)
-plan_shown p q bs e bytes shown = subst (λ r. (v : Plain) × Shows (shape r) v (bytes_of bs)) e (some_shown (shape p) (bytes_of bs) bytes (sym shown))
+pub plan_other_length : (q p : Packing) (bs : List ℕ) → q ≡ p → (length bs ≡ size (shape q.part) → ⊥) → OfPlan p (λ rules target t. IsLong rules target t bs → ⊥)
+plan_other_length q p bs e other rules target t of long = other ((plan_length q p bs rules target t e of).1 long)
 
-pub plan_none : (p q : Part) (bs : List ℕ) → p ≡ q → false ≡ is_shown (shape p) (from 0 (bytes_of bs)) → (v : Plain) → Shows (shape q) v (bytes_of bs) → ⊥
-plan_none p q bs e none = subst (λ r. (v : Plain) → Shows (shape r) v (bytes_of bs) → ⊥) e (λ v. none_shown (shape p) v (bytes_of bs) (sym none))
+pub plan_none : (q p : Packing) (bs : List ℕ) → q ≡ p → AreBytes (bytes_of bs) → length bs ≡ size (shape q.part) → false ≡ is_shown (shape q.part) (from 0 (bytes_of bs))
+    → OfPlan p (λ rules target t. IsLong rules target t bs × ((v : Plain) → Shows rules target t v (bytes_of bs) → ⊥))
+plan_none q p bs e bytes long none rules target t of = (
+  (plan_length q p bs rules target t e of).0 long,
+  λ v shown.
+      let some : is_shown (shape q.part) (bytes_of bs) ≡ true = shown_where (shape q.part) v (bytes_of bs) ((plan_shows q p v (bytes_of bs) rules target t e of bytes).1 shown) in
+      let lost : is_shown (shape q.part) (bytes_of bs) ≡ false = rw (from_zero (bytes_of bs)) at (sym none) in absurd (cc),
+)
 
-pub plan_where : (p q : Part) (v : Plain) (bs : List ℕ) (r : Bool) → p ≡ q → r ≡ is_shown (shape p) (from 0 (bytes_of bs)) → Shows (shape q) v (bytes_of bs) → r ≡ true
-plan_where p q v bs r e is shown = is ∙ shown_from (shape p) v (bytes_of bs) (subst (λ x. Shows (shape x) v (bytes_of bs)) (sym e) shown)
+-- where a value is shown, the bytes are told to show one
+pub plan_where : (q p : Packing) (bs : List ℕ) (r : Bool) → q ≡ p → AreBytes (bytes_of bs) → r ≡ is_shown (shape q.part) (from 0 (bytes_of bs))
+    → OfPlan p (λ rules target t. IsShown rules target t bs → r ≡ true)
+plan_where q p bs r e bytes is rules target t of shown =
+    let f : Image = bytes_of bs in
+    is ∙ ap (is_shown (shape q.part)) (from_zero f)
+    ∙ shown_where (shape q.part) shown.1.0 f ((plan_shows q p shown.1.0 f rules target t e of bytes).1 shown.1.1)

@@ -3,20 +3,21 @@ use Rattle.std.proofs.Common.{◌≡◌, ℕ, ◌+◌, ◌<◌, ◌≤◌, List,
 use Rattle.std.proofs.lemmas.List.{ext_get_or, get_or-take, get_or-drop, length-take-le}
 use Rattle.abi_pack.specs.Image.{from, firsts, bytes_of}
 use Rattle.abi_pack.specs.Plain.{Plain, unit, integer, boolean, is_unit, is_boolean, is_integer}
-use Rattle.abi_pack.specs.Form.{width_size, is_value, low_worth, ordered, number_in}
-use Rattle.abi_pack.specs.declared.form.Form.TheVariants as form
-use Rattle.abi_pack.specs.declared.form.IntForm.{IntForm}
-use Rattle.abi_pack.proofs.Forms.{firsts_length, firsts_at}
+use Rattle.abi_layout.specs.Prims.{width_size}
+use Rattle.abi_pack.specs.Scalars.{is_value, low_worth, ordered, number_in}
+use Rattle.abi_layout.specs.declared.scalar.Scalar.TheVariants as scalars
+use Rattle.abi_layout.specs.declared.scalar.Integer.{Integer}
+use Rattle.abi_pack.proofs.Stored.{firsts_length, firsts_at}
 
-pub no_unit : (v : Plain) → is_value form.Unit v ≡ is_unit v
+pub no_unit : (v : Plain) → is_value scalars.Unit v ≡ is_unit v
 no_unit unit = refl
 no_unit _ = refl
 
-pub no_boolean : (v : Plain) → is_value form.Bool v ≡ is_boolean v
+pub no_boolean : (v : Plain) → is_value scalars.Bool v ≡ is_boolean v
 no_boolean (boolean b) = refl
 no_boolean _ = refl
 
-pub no_integer : (f : IntForm) (v : Plain) → is_integer v ≡ false → is_value (form.Int f) v ≡ false
+pub no_integer : (f : Integer) (v : Plain) → is_integer v ≡ false → is_value (scalars.Int f) v ≡ false
 no_integer f (integer magnitude negative) h = absurd (cc)
 no_integer f _ h = refl
 
@@ -27,7 +28,7 @@ firsts_cut n at xs h =
     (λ i l. let inside : i < n = rw (firsts_length n (from at (bytes_of xs))) at l in
     firsts_at n (from at (bytes_of xs)) i inside ∙ sym (get_or-take n (drop at xs) i 0 inside ∙ get_or-drop at xs i 0))
 
-pub number_cut : (f : IntForm) (at n : ℕ) (xs : List ℕ) → n ≡ width_size f.width → at + width_size f.width ≤ length xs
+pub number_cut : (f : Integer) (at n : ℕ) (xs : List ℕ) → n ≡ width_size f.width → at + width_size f.width ≤ length xs
     → low_worth (ordered f.little (take n (drop at xs))) ≡ number_in f (from at (bytes_of xs))
 number_cut f at n xs e h = rw e (ap (λ ys. low_worth (ordered f.little ys)) (sym (firsts_cut (width_size f.width) at xs h)))
 

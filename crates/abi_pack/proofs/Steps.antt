@@ -2,7 +2,7 @@
 use Rattle.std.specs.Int.{is_power_of_two}
 use Rattle.std.specs.Int.Count.{ones}
 use Rattle.std.specs.Prelude.{nat_lt}
-use Rattle.std.proofs.Common.{◌≡◌, ℕ, zero, suc, ◌+◌, ◌^◌, ◌<◌, ◌≤◌, List, [], ◌∷◌, length, drop, length-drop, true, refl, ap, ◌∙◌, sym, subst, arith}
+use Rattle.std.proofs.Common.{◌≡◌, ℕ, zero, suc, ◌+◌, ◌^◌, ◌<◌, ◌≤◌, List, [], ◌∷◌, ◌&&◌, Bool, true, refl, ap, sym, subst, arith}
 use Rattle.std.proofs.lemmas.Bool.Decides.{nat_tests}
 use Rattle.std.specs.declared.boxed.Box.{Box}
 use Rattle.std.specs.declared.alloc.Global.{Global}
@@ -11,19 +11,38 @@ use Rattle.abi_det.specs.Owed.{IsTest}
 use Rattle.abi_det.specs.State.{IsCovered}
 use Rattle.abi_det.specs.declared.determinant.Test.{Test}
 use Rattle.abi_det.specs.declared.determinant.Test.TheVariants as test
-use Rattle.abi_pack.specs.Shape.{struct, size, size_in}
-use Rattle.abi_pack.specs.Sound.{IsSound, AreSound, IsSpot, is_second}
+use Rattle.abi_pack.specs.Plain.{Plain, variant}
+use Rattle.abi_layout.specs.Shape.{fields, size, size_in}
+use Rattle.abi_pack.specs.Shows.{fits, same_sort, start_of}
+use Rattle.abi_layout.specs.Trees.{sides}
+use Rattle.abi_pack.specs.Sound.{IsSound, AreSound, IsSpot}
 use Rattle.abi_pack.specs.View.{shape, shapes}
-use Rattle.abi_pack.specs.declared.part.Sort.{Sort}
-use Rattle.abi_pack.specs.declared.part.Spot.{Spot}
-use Rattle.abi_pack.specs.declared.part.PartField.{PartField}
-use Rattle.abi_pack.specs.declared.part.Part.{Part}
-use Rattle.abi_pack.specs.declared.part.Part.TheVariants as part
+use Rattle.abi_layout.specs.declared.part.Compound.TheVariants as compound
+use Rattle.abi_layout.specs.declared.part.Sort.{Sort}
+use Rattle.abi_layout.specs.declared.part.Spot.{Spot}
+use Rattle.abi_layout.specs.declared.part.PartField.{PartField}
+use Rattle.abi_layout.specs.declared.part.Part.{Part}
+use Rattle.abi_layout.specs.declared.part.Part.TheVariants as part
 use Rattle.abi_pack.proofs.Choice.{and_both, and_first, and_second}
+use Rattle.abi_pack.proofs.Nodes.{nodes, variant_fewer}
 use Rattle.abi_pack.proofs.Views.{shape_struct, shape_sum}
 
-pub struct_is : (p : Part) (fields all : List PartField) (free tail : ℕ) → p ≡ part.Struct all free tail → fields ≡ all → shape p ≡ struct (shapes free tail fields)
-struct_is p fields all free tail e same = rw (e, same) (shape_struct all free tail)
+-- ---- a struct
+
+pub struct_is : (p : Part) (fs all : List PartField) (n : ℕ) → p ≡ part.Struct all n → fs ≡ all → shape p ≡ fields compound.Struct n (shapes fs)
+struct_is p fs all n e same = rw (e, same) (shape_struct all n)
+
+pub struct_sound : (p : Part) (fs all : List PartField) (n : ℕ) → p ≡ part.Struct all n → fs ≡ all → IsSound (shape p) → AreSound (shapes fs)
+struct_sound p fs all n e same sound = (rw (struct_is p fs all n e same) at sound).0
+
+pub struct_within : (p : Part) (fs all : List PartField) (n o m : ℕ) → p ≡ part.Struct all n → fs ≡ all → IsSound (shape p) → o + size (shape p) ≤ m
+    → o + size_in (shapes fs) ≤ m
+struct_within p fs all n o m e same sound within =
+    let is = struct_is p fs all n e same in
+    let whole : size (shape p) ≡ n = ap size is in
+    let less : size_in (shapes fs) ≤ n = (rw is at sound).1 in omega arith
+
+-- ---- tests
 
 one_power : (b : ℕ) → b < 8 → is_power_of_two (2 ^ b) ≡ true
 unfolding ones
@@ -45,19 +64,6 @@ test_covered (test.BitIsErr o m) n is =
     let inside : nat_lt o n ≡ true = (let h : o < n = is.0 in grind (arith, nat_tests)) in
     and_both (nat_lt o n) _ inside (subst (λ x. is_power_of_two x ≡ true) (sym is.1.2) (one_power is.1.0 is.1.1))
 
-pub sum_sound : (p : Part) (names : Sort) (a b : Box Part Global) (at : Spot) → p ≡ part.Sum names a b at → IsSound (shape p)
-    → IsSound (shape a.value) × IsSound (shape b.value) × IsSpot (shape a.value) (shape b.value) at × (is_second names (shape b.value) ≡ true)
-sum_sound p names a b at e sound = rw (e, shape_sum names a b at) at sound
-
-pub sum_size : (p : Part) (names : Sort) (a b : Box Part Global) (at : Spot) → p ≡ part.Sum names a b at → size (shape p) ≡ at.size
-sum_size p names a b at e = rw (e, shape_sum names a b at) refl
-
-pub sum_covered : (p : Part) (names : Sort) (a b : Box Part Global) (at : Spot) (n : ℕ) → p ≡ part.Sum names a b at → IsSound (shape p) → n ≡ size (shape p)
-    → IsCovered at.determinant.test n
-sum_covered p names a b at n e sound long =
-    subst (λ m. IsCovered at.determinant.test m) (sym (long ∙ sum_size p names a b at e))
-    (test_covered at.determinant.test at.size (sum_sound p names a b at e sound).2.tested)
-
 pub below_longer : (n m : ℕ) (ps : List Pair) → n ≤ m → are_below n ps ≡ true → are_below m ps ≡ true
 below_longer n m [] le h = refl
 below_longer n m (p ∷ ps) le h =
@@ -73,36 +79,39 @@ covered_longer (test.BitIsErr o x) n m le h =
     let still : nat_lt o m ≡ true = grind (arith, nat_tests) in
     and_both (nat_lt o m) _ still (and_second (nat_lt o n) _ h)
 
--- the same of a sum that stands at an offset in longer bytes
-pub sum_covered_at : (p : Part) (names : Sort) (a b : Box Part Global) (at : Spot) (o : ℕ) (xs : List ℕ) → p ≡ part.Sum names a b at → IsSound (shape p) → o + size (shape p) ≤ length xs
-    → IsCovered at.determinant.test (length (drop o xs))
-sum_covered_at p names a b at o xs e sound within =
-    let long : at.size ≤ length (drop o xs) = rw (length-drop o xs) (let same : size (shape p) ≡ at.size = sum_size p names a b at e in omega arith) in
-    covered_longer at.determinant.test at.size (length (drop o xs)) long (test_covered at.determinant.test at.size (sum_sound p names a b at e sound).2.tested)
+-- ---- a sum
 
--- each variant of a sum that stands at an offset stands in the sum's bytes
-pub sum_within : (p : Part) (names : Sort) (a b : Box Part Global) (at : Spot) (o n : ℕ) → p ≡ part.Sum names a b at → IsSound (shape p) → o + size (shape p) ≤ n
-    → (o + at.ok + size (shape a.value) ≤ n) × (o + at.err + size (shape b.value) ≤ n)
-sum_within p names a b at o n e sound within =
-    let same : size (shape p) ≡ at.size = sum_size p names a b at e in
-    let ok : at.ok + size (shape a.value) ≤ at.size = (sum_sound p names a b at e sound).2.ok_side.inside in
-    let err : at.err + size (shape b.value) ≤ at.size = (sum_sound p names a b at e sound).2.err_side.inside in
-    (omega arith, omega arith)
+pub sum_sound : (p : Part) (names : Sort) (a b : Box Part Global) (at : Spot) → p ≡ part.Sum names a b at → IsSound (shape p)
+    → ((first : Bool) → IsSound (sides (shape a.value) (shape b.value) first)) × IsSpot (sides (shape a.value) (shape b.value)) at
+sum_sound p names a b at e sound = rw (e, shape_sum names a b at) at sound
 
--- ---- fields, whatever follows the last
+pub sum_size : (p : Part) (names : Sort) (a b : Box Part Global) (at : Spot) → p ≡ part.Sum names a b at → size (shape p) ≡ at.size
+sum_size p names a b at e = rw (e, shape_sum names a b at) refl
 
-any_sound : (free tail : ℕ) (fields : List PartField) → AreSound (shapes free tail fields) → AreSound (shapes 0 0 fields)
-any_sound free tail [] sound = tt
-any_sound free tail (f ∷ fs) sound = (sound.0, any_sound free tail fs sound.1)
+-- the test may be asked of as many bytes as the sum has, and of more
+pub sum_covered : (p : Part) (names : Sort) (a b : Box Part Global) (at : Spot) (n : ℕ) → p ≡ part.Sum names a b at → IsSound (shape p) → size (shape p) ≤ n
+    → IsCovered at.determinant.test n
+sum_covered p names a b at n e sound long =
+    covered_longer at.determinant.test at.size n (let same : size (shape p) ≡ at.size = sum_size p names a b at e in omega arith)
+    (test_covered at.determinant.test at.size (sum_sound p names a b at e sound).1.tested)
 
-any_size : (free tail : ℕ) (fields : List PartField) → size_in (shapes 0 0 fields) + tail ≡ size_in (shapes free tail fields)
-any_size free tail [] = omega arith
-any_size free tail (f ∷ fs) = let rest : size_in (shapes 0 0 fs) + tail ≡ size_in (shapes free tail fs) = any_size free tail fs in omega arith
+-- the part q is the variant of the sum that stands at an offset in n bytes
+pub record IsVariantOf (p q : Part) (at : Spot) (first : Bool) (o n : ℕ) : Type 0 where
+  pub fewer : nodes (shape q) < nodes (shape p)
+  pub sound : IsSound (shape q)
+  pub within : o + start_of at first + size (shape q) ≤ n
 
-pub struct_sound : (p : Part) (fields all : List PartField) (free tail : ℕ) → p ≡ part.Struct all free tail → fields ≡ all → IsSound (shape p) → AreSound (shapes 0 0 fields)
-struct_sound p fields all free tail e same sound = any_sound free tail fields (rw (struct_is p fields all free tail e same) at sound)
+pub variant_of : (p q : Part) (names : Sort) (a b : Box Part Global) (at : Spot) (first : Bool) (o n : ℕ) → p ≡ part.Sum names a b at
+    → shape q ≡ sides (shape a.value) (shape b.value) first → IsSound (shape p) → o + size (shape p) ≤ n → IsVariantOf p q at first o n
+variant_of p q names a b at first o n e is sound within =
+    let whole : size (shape p) ≡ at.size = sum_size p names a b at e in
+    let kept = sum_sound p names a b at e sound in
+    let inside : start_of at first + size (sides (shape a.value) (shape b.value) first) ≤ at.size = (kept.1.each first).inside in
+    record { fewer = variant_fewer p q names a b at first e is; sound = rw is (kept.0 first); within = rw is (omega arith) }
 
-pub struct_within : (p : Part) (fields all : List PartField) (free tail o n : ℕ) → p ≡ part.Struct all free tail → fields ≡ all → o + size (shape p) ≤ n → o + size_in (shapes 0 0 fields) ≤ n
-struct_within p fields all free tail o n e same within =
-    let is : size (shape p) ≡ size_in (shapes free tail fields) = ap size (struct_is p fields all free tail e same) in
-    let parts : size_in (shapes 0 0 fields) + tail ≡ size_in (shapes free tail fields) = any_size free tail fields in omega arith
+-- and the payload of a value of the sum is one of the variant's
+pub payload_fits : (p q : Part) (names kind : Sort) (a b : Box Part Global) (at : Spot) (v w : Plain) (first : Bool) → p ≡ part.Sum names a b at
+    → shape q ≡ sides (shape a.value) (shape b.value) first → v ≡ variant kind first w → fits (shape p) v ≡ true → fits (shape q) w ≡ true
+payload_fits p q names kind a b at v w first e is value h =
+    let fit : (same_sort names kind && fits (sides (shape a.value) (shape b.value) first) w) ≡ true = rw (e, shape_sum names a b at, value) at h in
+    rw is (and_second (same_sort names kind) _ fit)

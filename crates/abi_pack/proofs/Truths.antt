@@ -13,7 +13,7 @@ use Rattle.abi_det.specs.declared.determinant.Test.TheVariants as test
 use Rattle.abi_pack.specs.Image.{Image, AreBytes}
 use Rattle.abi_det.specs.Owed.{is_carried, IsTest}
 use Rattle.abi_pack.specs.Shows.{sign_of}
-use Rattle.abi_pack.specs.declared.part.Spot.{Spot}
+use Rattle.abi_layout.specs.declared.part.Spot.{Spot}
 use Rattle.abi_pack.proofs.Choice.{and_first, and_second, or_left, or_right, either_way}
 
 -- two bytes with the same bits are equal

@@ -3,7 +3,7 @@ use Rattle.std.proofs.Common.{◌≡◌, ℕ, suc, ◌+◌, ◌-◌, ◌*◌, �
 use Rattle.std.proofs.Math.Nat.{pow-succ', pow-le-pow_right}
 use Rattle.std.proofs.lemmas.Grind.{take-set_at}
 use Rattle.std.proofs.lemmas.List.{get_or-reverse, length-set}
-use Rattle.abi_pack.specs.Form.{low_bytes, low_worth, ordered}
+use Rattle.abi_pack.specs.Scalars.{low_bytes, low_worth, ordered}
 use Rattle.abi_pack.proofs.Numbers.{ordered_length}
 
 pub low_step : (xs : List ℕ) (i r number : ℕ) → i < length xs → take i xs ++ low_bytes (length xs - i) r ≡ low_bytes (length xs) number

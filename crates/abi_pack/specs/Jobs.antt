@@ -1,18 +1,17 @@
 -- The first fault of packing a value of a description, and the image that comes of it where there is none.
 use Rattle.std.specs.Prelude.{◌≡◌, ◌≢◌, Option, Some, None, option_map, if◌then◌else◌}
 use Rattle.abi_num.specs.declared.target.Target.{Target}
-use Rattle.abi_det.specs.Offers.{Rules, or_else}
+use Rattle.abi_det.specs.Offers.{or_else, Rules}
 use Rattle.abi_layout.specs.Trees.{Tree}
 use Rattle.abi_layout.specs.Frames.{written_frame}
 use Rattle.abi_layout.specs.Faults.{desc_fault}
 use Rattle.abi_layout.specs.declared.desc_error.DescError.{DescError}
 use Rattle.abi_layout.specs.declared.desc_error.DescError.TheVariants as of_desc
-use Rattle.abi_pack.specs.Descriptions.{planned}
+use Rattle.abi_layout.specs.Plans.{planned}
 use Rattle.abi_pack.specs.Packed.{packed}
 use Rattle.abi_pack.specs.Plain.{Plain}
-use Rattle.abi_pack.specs.Shape.{Shape}
-use Rattle.abi_pack.specs.Shows.{fits}
-use Rattle.abi_pack.specs.Sums.{written_sums}
+use Rattle.abi_pack.specs.Values.{fits}
+use Rattle.abi_layout.specs.Sums.{written_sums}
 use Rattle.abi_pack.specs.declared.abi_error.AbiError.{AbiError}
 use Rattle.abi_pack.specs.declared.abi_error.AbiError.TheVariants as fault
 use Rattle.abi_pack.specs.declared.image.Image.{Image}
@@ -25,12 +24,12 @@ of_description (of_desc.IllFormed part) = fault.IllFormed part
 of_description (of_desc.TooLarge part) = fault.TooLarge part
 of_description of_desc.OutOfMemory = fault.OutOfMemory
 
-abbrev pub value_fault : Shape → Plain → Option AbiError
-value_fault s v = if fits s v then None else Some fault.WrongValue
+abbrev pub value_fault : Target → Tree → Plain → Option AbiError
+value_fault target t v = if fits target t v then None else Some fault.WrongValue
 
 -- the first fault of the description, then that of the value
 unfoldable pub job_fault : Rules → Target → Tree → Plain → Option AbiError
-job_fault rules target t v = or_else (option_map of_description (desc_fault rules target t)) (value_fault (planned rules target t) v)
+job_fault rules target t v = or_else (option_map of_description (desc_fault rules target t)) (value_fault target t v)
 
 -- an error that is the fault, or want of memory
 abbrev pub IsJobFault : Option AbiError → AbiError → Type 0

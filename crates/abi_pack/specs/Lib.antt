@@ -1,5 +1,4 @@
 pub mod Agree
-pub mod Form
 pub mod Image
 pub mod Jobs
 pub mod Laws
@@ -8,11 +7,10 @@ pub mod Packing
 pub mod Plain
 pub mod Planned
 pub mod Reading
-pub mod Shape
+pub mod Scalars
 pub mod Shows
 pub mod Sound
-pub mod Sums
 pub mod Told
+pub mod Values
+pub mod Variants
 pub mod View
-pub mod Descriptions
-pub mod PlanLaws

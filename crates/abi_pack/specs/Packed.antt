@@ -1,10 +1,10 @@
 -- The bytes that writing leaves, in the order in which they are written.
-use Rattle.std.specs.Prelude.{ℕ, ◌+◌, ◌-◌, List, [], ◌++◌, replicate, true, false}
+use Rattle.std.specs.Prelude.{ℕ, ◌+◌, ◌-◌, List, [], ◌++◌, replicate}
 use Rattle.abi_det.specs.State.{carry}
-use Rattle.abi_pack.specs.Form.{stored}
 use Rattle.abi_pack.specs.Plain.{Plain, Plains, list, variant, end, more}
-use Rattle.abi_pack.specs.Shape.{Shape, Shapes, prim, struct, sum, last, field, size}
-use Rattle.abi_pack.specs.Shows.{sign_of}
+use Rattle.abi_pack.specs.Scalars.{stored}
+use Rattle.abi_layout.specs.Shape.{Shape, Shapes, scalar, fields, sum, last, field, size}
+use Rattle.abi_pack.specs.Shows.{start_of, sign_of}
 
 abbrev pub zeros : ℕ → List ℕ
 zeros n = replicate n 0
@@ -15,13 +15,14 @@ placed total shift n xs = zeros shift ++ (xs ++ zeros (total - (shift + n)))
 
 abbrev mutual
   pub packed : Shape → Plain → List ℕ
-  packed (prim form) v = stored form v
-  packed (struct fs) (list vs) = packed_in fs vs
-  packed (sum sort a b at) (variant kind true v) = carry at.determinant.test (sign_of at true) (placed at.size at.ok (size a) (packed a v))
-  packed (sum sort a b at) (variant kind false v) = carry at.determinant.test (sign_of at false) (placed at.size at.err (size b) (packed b v))
+  packed (scalar c) v = stored c v
+  packed (fields compound n fs) (list vs) = packed_in n fs vs
+  packed (sum names side at) (variant kind first v) =
+      carry at.determinant.test (sign_of at first) (placed at.size (start_of at first) (size (side first)) (packed (side first) v))
   packed _ _ = []
 
-  pub packed_in : Shapes → Plains → List ℕ
-  packed_in (last free tail) end = zeros tail
-  packed_in (field gap s fs) (more v vs) = zeros gap ++ (packed s v ++ packed_in fs vs)
-  packed_in _ _ = []
+  -- of n bytes
+  pub packed_in : ℕ → Shapes → Plains → List ℕ
+  packed_in n last end = zeros n
+  packed_in n (field gap s fs) (more v vs) = zeros gap ++ (packed s v ++ packed_in (n - (gap + size s)) fs vs)
+  packed_in n _ _ = []

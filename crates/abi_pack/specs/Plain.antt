@@ -1,7 +1,7 @@
 -- Values as plain data.
 use Rattle.std.specs.Prelude.{ℕ, List, Bool, true, false}
 use Rattle.std.specs.declared.cmp.Ordering.{Ordering}
-use Rattle.abi_pack.specs.declared.part.Sort.{Sort}
+use Rattle.abi_layout.specs.declared.part.Sort.{Sort}
 
 mutual
   pub data Plain : Type 0 where

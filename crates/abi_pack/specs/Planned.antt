@@ -1,7 +1,10 @@
--- What every plan keeps.
+-- What the part of every plan keeps.
 use Rattle.std.specs.Prelude.{◌<◌, ◌^◌}
-use Rattle.abi_pack.specs.Shape.{Shape, size}
+use Rattle.abi_layout.specs.Plans.{IsNamed}
+use Rattle.abi_layout.specs.Shape.{Shape, size}
 use Rattle.abi_pack.specs.Sound.{IsSound}
 
-abbrev pub IsPlanned : Shape → Type 0
-IsPlanned s = IsSound s × (size s < 2 ^ 32)
+pub record IsPlanned (s : Shape) : Type 0 where
+  pub sound : IsSound s
+  pub named : IsNamed s
+  pub small : size s < 2 ^ 32

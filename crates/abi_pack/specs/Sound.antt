@@ -1,48 +1,32 @@
--- What a plan keeps: a sum's determinant and free bits take nothing from its variants.
-use Rattle.std.specs.Prelude.{◌≡◌, ℕ, ◌+◌, ◌-◌, ◌<◌, ◌≤◌, Bool, true, false, nat_lt, if◌then◌else◌}
-use Rattle.std.specs.List.{list_any}
-use Rattle.abi_bits.specs.Forbidden.{is_match}
+-- What a plan keeps: the determinant of a sum takes nothing from its variants.
+use Rattle.std.specs.Prelude.{◌≡◌, ℕ, ◌+◌, ◌<◌, ◌≤◌, Bool, true, false}
 use Rattle.abi_det.specs.State.{test_holds, is_tested}
 use Rattle.abi_det.specs.Owed.{is_carried, IsTest}
-use Rattle.abi_pack.specs.Image.{Image, from, has}
-use Rattle.abi_pack.specs.Shape.{Shape, Shapes, prim, struct, sum, last, field, size, is_free, items}
-use Rattle.abi_pack.specs.Shows.{sign_of}
-use Rattle.abi_pack.specs.declared.form.Form.TheVariants as form
-use Rattle.abi_pack.specs.declared.part.Sort.{Sort}
-use Rattle.abi_pack.specs.declared.part.Sort.TheVariants as sort
-use Rattle.abi_pack.specs.declared.part.Spot.{Spot}
+use Rattle.abi_pack.specs.Image.{Image, from}
+use Rattle.abi_pack.specs.Plain.{Plain}
+use Rattle.abi_layout.specs.Shape.{Shape, Shapes, scalar, fields, sum, last, field, size, size_in}
+use Rattle.abi_pack.specs.Shows.{Shows, holds, start_of, sign_of, held_at}
+use Rattle.abi_layout.specs.declared.part.Spot.{Spot}
 
--- bit k of byte i of the union is free where the part stands at `shift` in it
-abbrev pub is_free_at : Shape → ℕ → ℕ → ℕ → Bool
-is_free_at s shift i k = if nat_lt i shift then true else (if nat_lt i (shift + size s) then is_free s (i - shift) k else true)
+-- a variant stands inside the sum; where the test is written it takes no bit that a value of the variant holds, and where
+-- it is not, no value of the variant has what it tests
+pub record IsSide (s : Shape) (first : Bool) (at : Spot) : Type 0 where
+  pub inside : start_of at first + size s ≤ at.size
+  pub carried : is_carried at.determinant.test (sign_of at first) ≡ true → (v : Plain) (i k : ℕ) → k < 8
+      → is_tested at.determinant.test i k ≡ true → held_at (start_of at first) (size s) (λ j l. holds s v j l) i k ≡ false
+  pub forbids : is_carried at.determinant.test (sign_of at first) ≡ false → (v : Plain) (f : Image)
+      → test_holds at.determinant.test f ≡ true → Shows s v (from (start_of at first) f) → ⊥
 
--- a variant that stands at `shift` and names itself by this truth of the test
-pub record IsSide (s : Shape) (shift : ℕ) (sign : Bool) (at : Spot) : Type 0 where
-  pub inside : shift + size s ≤ at.size
-  pub carried : is_carried at.determinant.test sign ≡ true → (i k : ℕ) → k < 8 → is_tested at.determinant.test i k ≡ true → is_free_at s shift i k ≡ true
-  -- where the test is not carried, the variant never has what it tests
-  pub forbids : is_carried at.determinant.test sign ≡ false → (f : Image) → test_holds at.determinant.test f ≡ true → list_any (is_match (from shift f)) (items s) ≡ true
-  pub exports : (i k : ℕ) → k < 8 → has at.free i k ≡ true → is_free_at s shift i k ≡ true
-
-pub record IsSpot (a b : Shape) (at : Spot) : Type 0 where
-  pub ok_side : IsSide a at.ok (sign_of at true) at
-  pub err_side : IsSide b at.err (sign_of at false) at
+pub record IsSpot (side : Bool → Shape) (at : Spot) : Type 0 where
+  pub each : (first : Bool) → IsSide (side first) first at
   pub tested : IsTest at.determinant.test at.size
-  -- the sum does not offer the bits of its own test as free
-  pub exports : (i k : ℕ) → k < 8 → has at.free i k ≡ true → is_tested at.determinant.test i k ≡ false
-
--- the second variant of an option has no payload
-abbrev pub is_second : Sort → Shape → Bool
-is_second sort.OfResult b = true
-is_second sort.OfOption (prim form.Unit) = true
-is_second sort.OfOption _ = false
 
 abbrev mutual
   pub IsSound : Shape → Type 0
-  IsSound (prim form) = Unit {0}
-  IsSound (struct fs) = AreSound fs
-  IsSound (sum names a b at) = IsSound a × IsSound b × IsSpot a b at × (is_second names b ≡ true)
+  IsSound (scalar c) = Unit {0}
+  IsSound (fields compound n fs) = AreSound fs × (size_in fs ≤ n)
+  IsSound (sum names side at) = ((first : Bool) → IsSound (side first)) × IsSpot side at
 
   pub AreSound : Shapes → Type 0
-  AreSound (last free tail) = Unit {0}
+  AreSound last = Unit {0}
   AreSound (field gap s fs) = IsSound s × AreSound fs

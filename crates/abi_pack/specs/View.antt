@@ -1,40 +1,10 @@
 -- Parts of a plan and values as plain data.
-use Rattle.std.specs.Prelude.{ℕ, List, [], ◌∷◌, true, false, map}
+use Rattle.std.specs.Prelude.{List, [], ◌∷◌, true, false, map}
 use Rattle.abi_pack.specs.Plain.{Plain, Plains, unit, integer, boolean, order, bytes, list, variant, end, more}
-use Rattle.abi_pack.specs.Shape.{Shape, Shapes, prim, struct, sum, last, field}
-use Rattle.abi_pack.specs.declared.part.Sort.TheVariants as sort
-use Rattle.abi_pack.specs.declared.part.PartField.{PartField}
-use Rattle.abi_pack.specs.declared.part.Part.{Part, fold-Part}
-use Rattle.abi_pack.specs.declared.part.Part.TheOpen.{Part-F, PartField-F}
+use Rattle.abi_layout.specs.declared.part.Sort.TheVariants as sort
 use Rattle.abi_pack.specs.declared.value.Value.{Value, fold-Value}
 use Rattle.abi_pack.specs.declared.value.Value.TheOpen.{Value-F}
-
--- the gap before a field, and the field
-abbrev pub Behind : Type 0
-Behind = ℕ × Shape
-
-abbrev pub fields_of : ℕ → ℕ → List Behind → Shapes
-fields_of free tail [] = last free tail
-fields_of free tail (f ∷ fs) = field f.0 f.1 (fields_of free tail fs)
-
-abbrev pub field_step : PartField-F Shape Behind → Behind
-field_step f = (f.gap, f.part)
-
-abbrev pub part_step : Part-F Shape Behind → Shape
-part_step (Part-F.Prim form) = prim form
-part_step (Part-F.Struct fields free tail) = struct (fields_of free tail fields)
-part_step (Part-F.Sum names first second at) = sum names first.value second.value at
-
-abbrev pub shape : Part → Shape
-shape = fold-Part Shape Behind part_step field_step
-
-abbrev pub shapes : ℕ → ℕ → List PartField → Shapes
-shapes free tail fields = fields_of free tail (map (λ f. (f.gap, shape f.part)) fields)
-
--- fields in front of others
-abbrev pub fronted : List PartField → Shapes → Shapes
-fronted [] rest = rest
-fronted (f ∷ fs) rest = field f.gap (shape f.part) (fronted fs rest)
+pub use Rattle.abi_layout.specs.PartView.{shape, shapes}
 
 abbrev pub plains_of : List Plain → Plains
 plains_of [] = end

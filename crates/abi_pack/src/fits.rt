@@ -1,55 +1,35 @@
-ghost use Rattle.std.specs.Prelude.{◌≡◌, ℕ};
-ghost use Rattle.abi_pack.specs.Shows.{fits, fits_in, same_sort};
+ghost use Rattle.std.specs.Prelude.{◌≡◌};
+ghost use Rattle.abi_layout.specs.Shape.{repeated};
+ghost use Rattle.abi_pack.specs.Shows.{fits, fits_in};
 ghost use Rattle.abi_pack.specs.View.{shape, shapes, plain, plains};
 
-use crate::part::{Part, PartField, Sort};
+use crate::scalars;
+use crate::sides::{is_same, side};
 use crate::value::Value;
-
-impl Sort {
-    /// Whether the variants are called the same.
-    pub(crate) fn is(&self, other: &Sort) -> bool
-        ensures { result ≡ same_sort self.now other.now }
-    {
-        match (self, other) {
-            (Sort::OfResult, Sort::OfResult) | (Sort::OfOption, Sort::OfOption) => true,
-            (Sort::OfResult, Sort::OfOption) | (Sort::OfOption, Sort::OfResult) => false,
-        }
-    }
-}
+use abi_layout::{Part, PartField};
 
 /// Whether the value is one of the part's.
 #[cycle(fits)]
-#[tactic(auto, using(crate::proofs::Fitting::fits_prim, crate::proofs::Fitting::fits_struct, crate::proofs::Fitting::fits_no_list, crate::proofs::Fitting::fits_no_variant))]
+#[tactic(auto, using(crate::proofs::Fitting::fits_scalar, crate::proofs::Fitting::fits_struct, crate::proofs::Fitting::fits_array, crate::proofs::Fitting::fits_variant, crate::proofs::Fitting::fits_no_list, crate::proofs::Fitting::fits_no_items, crate::proofs::Fitting::fits_no_variant))]
 pub(crate) fn fits(part: &Part, value: &Value) -> bool
     ensures { result ≡ fits (shape part.now) (plain value.now) }
 {
     match part {
-        Part::Prim(form) => form.has(value),
-        Part::Struct {
-            fields,
-            free: _,
-            tail: _,
-        } => match value.as_list() {
+        Part::Scalar(scalar) => scalars::has(scalar, value),
+        Part::Struct { fields, .. } => match value.as_list() {
             Some(values) => fit_all(fields.as_slice(), values),
             None => false,
         },
-        Part::Sum {
-            sort,
-            ok,
-            err,
-            spot: _,
-        } => {
+        Part::Array { item, len, .. } => match value.as_list() {
+            Some(values) => fit_each(item, *len, values),
+            None => false,
+        },
+        Part::Sum { names, ok, err, .. } => {
             let unit = Value::Unit;
             match value.as_variant(&unit) {
                 Some(variant) => {
-                    if !sort.is(&variant.sort) {
-                        return false;
-                    }
-                    if variant.first {
-                        fits(ok, variant.payload)
-                    } else {
-                        fits(err, variant.payload)
-                    }
+                    let same = is_same(names, &variant.names);
+                    same && fits(side(ok, err, variant.first), variant.payload)
                 }
                 None => false,
             }
@@ -60,7 +40,7 @@ pub(crate) fn fits(part: &Part, value: &Value) -> bool
 /// Whether there is one value for each field, and each is one of its field's.
 #[cycle(fits)]
 fn fit_all(fields: &[PartField], values: &[Value]) -> bool
-    ensures { (free tail : ℕ) → result ≡ fits_in (shapes free tail fields.now) (plains values.now) }
+    ensures { result ≡ fits_in (shapes fields.now) (plains values.now) }
 {
     match (fields.split_first(), values.split_first()) {
         (Some((field, fields)), Some((value, values))) => {
@@ -70,4 +50,21 @@ fn fit_all(fields: &[PartField], values: &[Value]) -> bool
         (None, None) => true,
         (Some(_), None) | (None, Some(_)) => false,
     }
+}
+
+/// Whether there are `len` values, and each is one of the item's.
+#[cycle(fits)]
+#[tactic(auto, using(crate::proofs::Rows::row_other_count))]
+fn fit_each(item: &Part, len: u64, values: &[Value]) -> bool
+    ensures { result ≡ fits_in (repeated len (shape item.now)) (plains values.now) }
+{
+    if values.len() as u64 != len {
+        return false;
+    }
+    for value in values {
+        if !fits(item, value) {
+            return false;
+        }
+    }
+    true
 }

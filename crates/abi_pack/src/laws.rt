@@ -1,7 +1,18 @@
-//! What holds of packed bytes, whatever the plan: each function's clause is a law.
+//! What holds of packed bytes, of every description without a fault: each function's clause is a law.
 
-ghost use Rattle.abi_pack.specs.PlanLaws.{PlanLaw};
-ghost use Rattle.abi_pack.specs.Laws.{CanonicalLaw, UniqueLaw, FitLaw, HeldLaw, FlipLaw, FreeLaw, ChangeLaw, ItemLaw, PackedLaw, PackedCanonicalLaw, BackLaw};
+ghost use Rattle.abi_pack.specs.Laws.{
+  CanonicalLaw,
+  UniqueLaw,
+  FitLaw,
+  HeldLaw,
+  FlipLaw,
+  FreeLaw,
+  ChangeLaw,
+  ItemLaw,
+  PackedLaw,
+  BackLaw,
+  ImageLaw,
+};
 
 /// Every value that fits has exactly one canonical byte string.
 #[tactic(auto, using(crate::proofs::Lawful::canonical_law))]
@@ -33,19 +44,19 @@ pub fn held_bit_flips()
     ensures { FlipLaw }
 {}
 
-/// No value holds a free bit.
+/// No value holds a free bit of the layout.
 #[tactic(auto, using(crate::proofs::Lawful::free_law))]
 pub fn free_bits_are_not_held()
     ensures { FreeLaw }
 {}
 
-/// Bytes that show a value show it after any change of free bits.
+/// Bytes that show a value show it after any change of the layout's free bits.
 #[tactic(auto, using(crate::proofs::Lawful::change_law))]
 pub fn free_bits_may_change()
     ensures { ChangeLaw }
 {}
 
-/// Bytes that show a value match no forbidden item.
+/// Bytes that show a value match no forbidden item of the layout.
 #[tactic(auto, using(crate::proofs::Lawful::item_law))]
 pub fn no_item_matches()
     ensures { ItemLaw }
@@ -57,18 +68,14 @@ pub fn equal_bytes_equal_values()
     ensures { PackedLaw }
 {}
 
-/// The bytes that packing computes are the value's canonical ones.
-pub fn packing_is_canonical()
-    ensures { PackedCanonicalLaw }
-{}
-
-/// Reading what was packed gives the value back.
+/// Canonical bytes show the value that was packed and no other.
+#[tactic(auto, using(crate::proofs::Lawful::back_law))]
 pub fn packed_value_is_read_back()
     ensures { BackLaw }
 {}
 
-/// The plan of a description without a fault has the size, the free bits and the forbidden items of its
-/// written frame, and keeps what every plan keeps, so that the laws above hold of it.
-pub fn faultless_is_planned()
-    ensures { PlanLaw }
+/// The image of a job without a fault has the canonical bytes of its value.
+#[tactic(auto, using(crate::proofs::Promised::image_law))]
+pub fn image_is_canonical()
+    ensures { ImageLaw }
 {}

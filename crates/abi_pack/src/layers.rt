@@ -2,13 +2,13 @@ ghost use Rattle.std.specs.Prelude.{◌≡◌, false, MatchOption};
 ghost use Rattle.abi_pack.specs.Plain.{unit as no_bytes, integer, boolean, list, variant, is_unit, is_integer, is_boolean, is_list, is_variant};
 ghost use Rattle.abi_pack.specs.View.{plain, plains};
 
-use crate::part::Sort;
 use crate::value::Value;
+use abi_layout::Sort;
 
 /// A value of a sum: what its variants are called, whether it is the first of them, and its payload.
 #[derive(Clone, Copy)]
 pub(crate) struct Variant<'a> {
-    pub(crate) sort: Sort,
+    pub(crate) names: Sort,
     pub(crate) first: bool,
     pub(crate) payload: &'a Value,
 }
@@ -58,26 +58,26 @@ impl Value {
     /// The variant; `None` has the payload `unit`, which is `Value::Unit`.
     pub(crate) fn as_variant<'a>(&'a self, unit: &'a Value) -> Option<Variant<'a>>
         requires { plain unit.now ≡ no_bytes }
-        ensures { MatchOption result (is_variant (plain self.now) ≡ false) (λ r. plain self.now ≡ variant r.sort r.first (plain r.payload.now)) }
+        ensures { MatchOption result (is_variant (plain self.now) ≡ false) (λ r. plain self.now ≡ variant r.names r.first (plain r.payload.now)) }
     {
         match self {
             Value::Ok(payload) => Some(Variant {
-                sort: Sort::OfResult,
+                names: Sort::OfResult,
                 first: true,
                 payload,
             }),
             Value::Err(payload) => Some(Variant {
-                sort: Sort::OfResult,
+                names: Sort::OfResult,
                 first: false,
                 payload,
             }),
             Value::Some(payload) => Some(Variant {
-                sort: Sort::OfOption,
+                names: Sort::OfOption,
                 first: true,
                 payload,
             }),
             Value::None => Some(Variant {
-                sort: Sort::OfOption,
+                names: Sort::OfOption,
                 first: false,
                 payload: unit,
             }),

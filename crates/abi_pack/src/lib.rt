@@ -3,19 +3,16 @@
 
 mod abi_error;
 mod fits;
-mod form;
 mod image;
 mod integer;
 mod jobs;
 pub mod laws;
 mod layers;
-mod part;
 mod plan;
-mod planner;
-mod primitive;
 mod read;
+mod scalars;
 mod shown;
-mod sizes;
+mod sides;
 mod step;
 #[cfg(test)]
 mod tests;
@@ -23,7 +20,8 @@ mod value;
 mod write;
 
 pub use abi_error::AbiError;
-pub use image::{Image, Placed, PlacedList};
+pub use abi_layout::{Placed, PlacedList};
+pub use image::Image;
 pub use jobs::run;
 pub use plan::{Plan, ReadError};
 pub use step::{Edit, Edits, Step, Steps};

@@ -1,15 +1,17 @@
-ghost use Rattle.std.specs.Prelude.{◌≡◌, ℕ, true, false, ◌+◌, ◌≤◌, ◌<◌, ◌^◌, IfOk, OnOk, length, slice_index};
+ghost use Rattle.std.specs.Prelude.{◌≡◌, true, false, ◌+◌, ◌≤◌, ◌<◌, ◌^◌, IfOk, OnOk, length, slice_index};
 ghost use Rattle.abi_pack.specs.Image.{from};
 ghost use Rattle.abi_pack.specs.Plain.{unit, variant, end};
-ghost use Rattle.abi_pack.specs.Shape.{size, size_in};
+ghost use Rattle.abi_layout.specs.Shape.{size, size_in, repeated};
 ghost use Rattle.abi_pack.specs.Shows.{same_sort};
 ghost use Rattle.abi_pack.specs.Sound.{IsSound, AreSound};
+ghost use Rattle.abi_layout.specs.Plans.{IsNamed, AreNamed};
 ghost use Rattle.abi_pack.specs.Told.{told, told_in};
 ghost use Rattle.abi_pack.specs.View.{shape, shapes, plain, joined};
 
-use crate::part::{Part, PartField, Sort};
-use crate::sizes::size;
+use crate::scalars;
+use crate::sides::{side, size, start};
 use crate::value::{Value, Values};
+use abi_layout::{Part, PartField, Sort};
 use abi_num::{Items, OutOfMemory};
 use std::alloc::Global;
 
@@ -22,36 +24,34 @@ pub(crate) fn read(
     at: usize,
 ) -> Result<Value, OutOfMemory>
     requires sound { IsSound (shape part.now) }
+    requires named { IsNamed (shape part.now) }
     requires small { length bytes.now < 2 ^ 32 }
     requires within { at + size (shape part.now) ≤ length bytes.now }
     ensures { IfOk result (λ v. plain v ≡ told (shape part.now) (from at (slice_index bytes.now))) }
 {
     match part {
-        Part::Prim(form) => Ok(form.told(bytes, at)),
-        Part::Struct {
-            fields,
-            free: _,
-            tail: _,
-        } => {
+        Part::Scalar(scalar) => Ok(scalars::told(scalar, bytes, at)),
+        Part::Struct { fields, .. } => {
             let mut values = Items::new(alloc);
             read_all(alloc, fields.as_slice(), bytes, at, &mut values)?;
             Ok(Value::List(values))
         }
+        Part::Array { item, len, .. } => {
+            let mut values = Items::new(alloc);
+            read_each(alloc, item, *len, bytes, at, &mut values)?;
+            Ok(Value::List(values))
+        }
         Part::Sum {
-            sort,
+            names,
             ok,
             err,
             spot,
         } => {
-            if spot.determinant.is_det_ok(&bytes[at..]) {
-                let payload = read(alloc, ok, bytes, at + spot.ok as usize)?;
-                let value = sort.first(alloc, payload)?;
-                Ok(value)
-            } else {
-                let payload = read(alloc, err, bytes, at + spot.err as usize)?;
-                let value = sort.second(alloc, payload)?;
-                Ok(value)
-            }
+            let first = spot.determinant.is_det_ok(&bytes[at..]);
+            let variant = side(ok, err, first);
+            let payload = read(alloc, variant, bytes, at + start(spot, first))?;
+            let value = variant_value(alloc, names, first, payload)?;
+            Ok(value)
         }
     }
 }
@@ -65,10 +65,11 @@ fn read_all(
     at: usize,
     values: &mut Values,
 ) -> Result<(), OutOfMemory>
-    requires sound { AreSound (shapes 0 0 fields.now) }
+    requires sound { AreSound (shapes fields.now) }
+    requires named { AreNamed (shapes fields.now) }
     requires small { length bytes.now < 2 ^ 32 }
-    requires within { at + size_in (shapes 0 0 fields.now) ≤ length bytes.now }
-    ensures { OnOk result ((free tail : ℕ) → joined values.new end ≡ joined values.old (told_in (shapes free tail fields.now) (from at (slice_index bytes.now)))) }
+    requires within { at + size_in (shapes fields.now) ≤ length bytes.now }
+    ensures { OnOk result (joined values.new end ≡ joined values.old (told_in (shapes fields.now) (from at (slice_index bytes.now)))) }
 {
     match fields.split_first() {
         Some((field, fields)) => {
@@ -83,29 +84,59 @@ fn read_all(
     }
 }
 
-impl Sort {
-    /// The first variant with this payload.
-    fn first(&self, alloc: Global, payload: Value) -> Result<Value, OutOfMemory>
-        ensures { IfOk result (λ v. plain v ≡ variant self.now true (plain payload)) }
-    {
-        let payload = Box::new(alloc, payload)?;
-        match self {
-            Sort::OfResult => Ok(Value::Ok(payload)),
-            Sort::OfOption => Ok(Value::Some(payload)),
-        }
+/// Adds the `len` values of the item that the bytes from `at` on show.
+#[cycle(read)]
+#[tactic(auto, using(crate::proofs::Rows::row_size_next, crate::proofs::Rows::row_told))]
+fn read_each(
+    alloc: Global,
+    item: &Part,
+    len: u64,
+    bytes: &[u8],
+    at: usize,
+    values: &mut Values,
+) -> Result<(), OutOfMemory>
+    requires sound { AreSound (repeated len (shape item.now)) }
+    requires named { AreNamed (repeated len (shape item.now)) }
+    requires small { length bytes.now < 2 ^ 32 }
+    requires within { at + size_in (repeated len (shape item.now)) ≤ length bytes.now }
+    ensures { OnOk result (joined values.new end ≡ joined values.old (told_in (repeated len (shape item.now)) (from at (slice_index bytes.now)))) }
+{
+    if len == 0 {
+        return Ok(());
     }
+    let size = size(item);
+    let mut start = at;
+    for i in 0..len {
+        let value = read(alloc, item, bytes, start)?;
+        values.push(value)?;
+        start += size;
+    }
+    Ok(())
+}
 
-    /// The second variant with this payload, which is `Unit` for an option.
-    fn second(&self, alloc: Global, payload: Value) -> Result<Value, OutOfMemory>
-        requires { same_sort self.now Sort.OfOption ≡ true → plain payload ≡ unit }
-        ensures { IfOk result (λ v. plain v ≡ variant self.now false (plain payload)) }
-    {
-        match self {
-            Sort::OfResult => {
-                let payload = Box::new(alloc, payload)?;
-                Ok(Value::Err(payload))
-            }
-            Sort::OfOption => Ok(Value::None),
+/// The value of a sum with this payload, which is `Unit` for `None`.
+fn variant_value(
+    alloc: Global,
+    names: &Sort,
+    first: bool,
+    payload: Value,
+) -> Result<Value, OutOfMemory>
+    requires { same_sort names.now Sort.OfOption ≡ true → first ≡ false → plain payload ≡ unit }
+    ensures { IfOk result (λ v. plain v ≡ variant names.now first (plain payload)) }
+{
+    match (names, first) {
+        (Sort::OfResult, true) => {
+            let payload = Box::new(alloc, payload)?;
+            Ok(Value::Ok(payload))
         }
+        (Sort::OfResult, false) => {
+            let payload = Box::new(alloc, payload)?;
+            Ok(Value::Err(payload))
+        }
+        (Sort::OfOption, true) => {
+            let payload = Box::new(alloc, payload)?;
+            Ok(Value::Some(payload))
+        }
+        (Sort::OfOption, false) => Ok(Value::None),
     }
 }

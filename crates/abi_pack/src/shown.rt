@@ -1,12 +1,13 @@
-ghost use Rattle.std.specs.Prelude.{◌≡◌, ℕ, ◌+◌, ◌≤◌, ◌<◌, ◌^◌, length, slice_index};
+ghost use Rattle.std.specs.Prelude.{◌≡◌, ◌+◌, ◌≤◌, ◌<◌, ◌^◌, length, slice_index};
 ghost use Rattle.abi_pack.specs.Image.{from};
-ghost use Rattle.abi_pack.specs.Shape.{size, size_in};
+ghost use Rattle.abi_layout.specs.Shape.{size, size_in, repeated};
 ghost use Rattle.abi_pack.specs.Sound.{IsSound, AreSound};
 ghost use Rattle.abi_pack.specs.Told.{is_shown, is_shown_in};
 ghost use Rattle.abi_pack.specs.View.{shape, shapes};
 
-use crate::part::{Part, PartField};
-use crate::sizes::size;
+use crate::scalars;
+use crate::sides::{side, size, start};
+use abi_layout::{Part, PartField};
 
 /// Whether the bytes from `at` on show a value of the part.
 #[cycle(shown)]
@@ -17,23 +18,13 @@ pub(crate) fn is_shown(part: &Part, bytes: &[u8], at: usize) -> bool
     ensures { result ≡ is_shown (shape part.now) (from at (slice_index bytes.now)) }
 {
     match part {
-        Part::Prim(form) => form.is_legal(bytes, at),
-        Part::Struct {
-            fields,
-            free: _,
-            tail: _,
-        } => are_shown(fields.as_slice(), bytes, at),
-        Part::Sum {
-            sort: _,
-            ok,
-            err,
-            spot,
-        } => {
-            if spot.determinant.is_det_ok(&bytes[at..]) {
-                is_shown(ok, bytes, at + spot.ok as usize)
-            } else {
-                is_shown(err, bytes, at + spot.err as usize)
-            }
+        Part::Scalar(scalar) => scalars::is_legal(scalar, bytes, at),
+        Part::Struct { fields, .. } => are_shown(fields.as_slice(), bytes, at),
+        Part::Array { item, len, .. } => each_shown(item, *len, bytes, at),
+        Part::Sum { ok, err, spot, .. } => {
+            let first = spot.determinant.is_det_ok(&bytes[at..]);
+            let variant = side(ok, err, first);
+            is_shown(variant, bytes, at + start(spot, first))
         }
     }
 }
@@ -41,10 +32,10 @@ pub(crate) fn is_shown(part: &Part, bytes: &[u8], at: usize) -> bool
 /// Whether the bytes from `at` on show a value of each field.
 #[cycle(shown)]
 fn are_shown(fields: &[PartField], bytes: &[u8], at: usize) -> bool
-    requires sound { AreSound (shapes 0 0 fields.now) }
+    requires sound { AreSound (shapes fields.now) }
     requires small { length bytes.now < 2 ^ 32 }
-    requires within { at + size_in (shapes 0 0 fields.now) ≤ length bytes.now }
-    ensures { (free tail : ℕ) → result ≡ is_shown_in (shapes free tail fields.now) (from at (slice_index bytes.now)) }
+    requires within { at + size_in (shapes fields.now) ≤ length bytes.now }
+    ensures { result ≡ is_shown_in (shapes fields.now) (from at (slice_index bytes.now)) }
 {
     match fields.split_first() {
         Some((field, fields)) => {
@@ -55,4 +46,30 @@ fn are_shown(fields: &[PartField], bytes: &[u8], at: usize) -> bool
         }
         None => true,
     }
+}
+
+/// Whether the bytes from `at` on show `len` values of the item.
+#[cycle(shown)]
+#[tactic(auto, using(crate::proofs::Rows::row_size_next, crate::proofs::Rows::row_shown_on, crate::proofs::Rows::row_shown_not, crate::proofs::Rows::row_point))]
+fn each_shown(item: &Part, len: u64, bytes: &[u8], at: usize) -> bool
+    requires sound { AreSound (repeated len (shape item.now)) }
+    requires small { length bytes.now < 2 ^ 32 }
+    requires within { at + size_in (repeated len (shape item.now)) ≤ length bytes.now }
+    ensures { result ≡ is_shown_in (repeated len (shape item.now)) (from at (slice_index bytes.now)) }
+{
+    if len == 0 {
+        return true;
+    }
+    let size = size(item);
+    if size == 0 {
+        return is_shown(item, bytes, at);
+    }
+    let mut start = at;
+    for i in 0..len {
+        if !is_shown(item, bytes, start) {
+            return false;
+        }
+        start += size;
+    }
+    true
 }

@@ -1,13 +1,14 @@
-ghost use Rattle.std.specs.Prelude.{◌≡◌, ℕ, true, ◌+◌, ◌≤◌, ◌<◌, ◌^◌, length, IfOk};
+ghost use Rattle.std.specs.Prelude.{◌≡◌, true, ◌+◌, ◌≤◌, ◌<◌, ◌^◌, length, IfOk};
 ghost use Rattle.abi_pack.specs.Packed.{packed, packed_in, placed};
-ghost use Rattle.abi_pack.specs.Shape.{size, size_in};
+ghost use Rattle.abi_layout.specs.Shape.{size, size_in, repeated};
 ghost use Rattle.abi_pack.specs.Shows.{fits, fits_in};
 ghost use Rattle.abi_pack.specs.Sound.{IsSound, AreSound};
 ghost use Rattle.abi_pack.specs.View.{shape, shapes, plain, plains};
 
-use crate::part::{Part, PartField};
-use crate::sizes::size;
+use crate::scalars;
+use crate::sides::{name_variant, side, size, start};
 use crate::value::{Bytes, Value};
+use abi_layout::{Part, PartField};
 use abi_num::{Items, OutOfMemory};
 use std::alloc::Global;
 
@@ -25,7 +26,6 @@ pub(crate) fn packed(alloc: Global, part: &Part, value: &Value) -> Result<Bytes,
 
 /// Writes the value's canonical bytes, whatever stood there.
 #[cycle(write)]
-#[tactic(auto, using(crate::proofs::Views::shape_struct))]
 pub(crate) fn write(part: &Part, value: &Value, out: &mut [u8])
     requires sound { IsSound (shape part.now) }
     requires small { size (shape part.now) < 2 ^ 32 }
@@ -34,27 +34,23 @@ pub(crate) fn write(part: &Part, value: &Value, out: &mut [u8])
     ensures { out.new ≡ packed (shape part.now) (plain value.now) }
 {
     match part {
-        Part::Prim(form) => form.write(value, out),
-        Part::Struct { fields, free, tail } => {
+        Part::Scalar(scalar) => scalars::write(scalar, value, out),
+        Part::Struct { fields, .. } => {
             if let Some(values) = value.as_list() {
-                write_all(fields.as_slice(), *free, *tail, values, out);
+                write_all(fields.as_slice(), values, out);
             }
         }
-        Part::Sum {
-            sort: _,
-            ok,
-            err,
-            spot,
-        } => {
+        Part::Array { item, len, .. } => {
+            if let Some(values) = value.as_list() {
+                write_each(item, *len, values, out);
+            }
+        }
+        Part::Sum { ok, err, spot, .. } => {
             let unit = Value::Unit;
             if let Some(variant) = value.as_variant(&unit) {
-                if variant.first {
-                    write_at(ok, variant.payload, spot.ok as usize, out);
-                    spot.determinant.ok(out);
-                } else {
-                    write_at(err, variant.payload, spot.err as usize, out);
-                    spot.determinant.err(out);
-                }
+                let part = side(ok, err, variant.first);
+                write_at(part, variant.payload, start(spot, variant.first), out);
+                name_variant(spot, variant.first, out);
             }
         }
     }
@@ -76,14 +72,14 @@ fn write_at(part: &Part, value: &Value, shift: usize, out: &mut [u8])
     after.fill(0);
 }
 
-/// Writes the values of the fields, and zeros between and after them. Of the `tail` bytes after them the first `free` are free.
+/// Writes the values of the fields, and zeros between and after them.
 #[cycle(write)]
-fn write_all(fields: &[PartField], free: u64, tail: u64, values: &[Value], out: &mut [u8])
-    requires sound { AreSound (shapes free tail fields.now) }
-    requires small { size_in (shapes free tail fields.now) < 2 ^ 32 }
-    requires fits { fits_in (shapes free tail fields.now) (plains values.now) ≡ true }
-    requires room { length out.old ≡ size_in (shapes free tail fields.now) }
-    ensures { out.new ≡ packed_in (shapes free tail fields.now) (plains values.now) }
+fn write_all(fields: &[PartField], values: &[Value], out: &mut [u8])
+    requires sound { AreSound (shapes fields.now) }
+    requires small { length out.old < 2 ^ 32 }
+    requires fits { fits_in (shapes fields.now) (plains values.now) ≡ true }
+    requires room { size_in (shapes fields.now) ≤ length out.old }
+    ensures { out.new ≡ packed_in (length out.old) (shapes fields.now) (plains values.now) }
 {
     match (fields.split_first(), values.split_first()) {
         (Some((field, fields)), Some((value, values))) => {
@@ -91,9 +87,32 @@ fn write_all(fields: &[PartField], free: u64, tail: u64, values: &[Value], out: 
             before.fill(0);
             let (here, rest) = rest.split_at_mut(size(&field.part));
             write(&field.part, value, here);
-            write_all(fields, free, tail, values, rest);
+            write_all(fields, values, rest);
         }
         (None, None) => out.fill(0),
         (Some(_), None) | (None, Some(_)) => {}
     }
+}
+
+/// Writes the `len` values one after another, and zeros after them.
+#[cycle(write)]
+fn write_each(item: &Part, len: u64, values: &[Value], out: &mut [u8])
+    requires sound { AreSound (repeated len (shape item.now)) }
+    requires small { length out.old < 2 ^ 32 }
+    requires fits { fits_in (repeated len (shape item.now)) (plains values.now) ≡ true }
+    requires room { size_in (repeated len (shape item.now)) ≤ length out.old }
+    ensures { out.new ≡ packed_in (length out.old) (repeated len (shape item.now)) (plains values.now) }
+{
+    if out.is_empty() {
+        return;
+    }
+    let size = size(item);
+    let mut start = 0;
+    for value in values {
+        let end = start + size;
+        write(item, value, &mut out[start..end]);
+        start = end;
+    }
+    let (_, rest) = out.split_at_mut(start);
+    rest.fill(0);
 }

@@ -8,16 +8,20 @@ use Rattle.abi_layout.specs.Faults.{part_fault, desc_fault}
 use Rattle.abi_layout.specs.Trees.{Tree, parts}
 use Rattle.abi_layout.specs.declared.desc_error.DescError.{DescError}
 use Rattle.abi_layout.specs.declared.desc_error.DescError.TheVariants as of_desc
-use Rattle.abi_pack.specs.Descriptions.{planned}
 use Rattle.abi_pack.specs.Jobs.{of_description, value_fault, job_fault}
 use Rattle.abi_pack.specs.Plain.{Plain}
-use Rattle.abi_pack.specs.Shows.{fits}
+use Rattle.abi_pack.specs.Values.{fits}
 use Rattle.abi_pack.specs.declared.abi_error.AbiError.{AbiError}
 use Rattle.abi_pack.specs.declared.abi_error.AbiError.TheVariants as fault
 
-neither : (a : Option DescError) (b : Option AbiError) → or_else (option_map of_description a) b ≡ None → (a ≡ None) × (b ≡ None)
+-- the first of two faults is none where neither is
+pub neither : {A : Type 0} (a b : Option A) → or_else a b ≡ None → (a ≡ None) × (b ≡ None)
 neither None b e = (refl, e)
 neither (Some x) b e = absurd (cc)
+
+unmapped : {A B : Type 0} (f : A → B) (a : Option A) → option_map f a ≡ None → a ≡ None
+unmapped f None e = refl
+unmapped f (Some x) e = absurd (cc)
 
 fits_if : (fit : Bool) → ◌≡◌ {A = Option AbiError} (cond fit None (Some fault.WrongValue)) None → fit ≡ true
 fits_if true e = refl
@@ -30,9 +34,10 @@ row_if true true part e = absurd (cc)
 row_if false many part e = absurd (cc)
 
 pub record IsFaultless (rules : Rules) (target : Target) (t : Tree) (v : Plain) : Type 0 where
+  pub desc : desc_fault rules target t ≡ None
   pub row : is_row target ≡ true
   pub parts : part_fault rules target 0 t ≡ None
-  pub fit : fits (planned rules target t) v ≡ true
+  pub fit : fits target t v ≡ true
 
 described : (rules : Rules) (target : Target) (t : Tree) → desc_fault rules target t ≡ None → (is_row target ≡ true) × (part_fault rules target 0 t ≡ None)
 unfolding desc_fault
@@ -41,6 +46,7 @@ described rules target t e = row_if (is_row target) (ltb 4096 (parts t)) (part_f
 pub faultless : (rules : Rules) (target : Target) (t : Tree) (v : Plain) → job_fault rules target t v ≡ None → IsFaultless rules target t v
 unfolding job_fault
 faultless rules target t v e =
-    let n = neither (desc_fault rules target t) (value_fault (planned rules target t) v) e in
-    let d = described rules target t n.0 in
-    record { row = d.0; parts = d.1; fit = fits_if (fits (planned rules target t) v) n.1 }
+    let n = neither (option_map of_description (desc_fault rules target t)) (value_fault target t v) e in
+    let none = unmapped of_description (desc_fault rules target t) n.0 in
+    let d = described rules target t none in
+    record { desc = none; row = d.0; parts = d.1; fit = fits_if (fits target t v) n.1 }

@@ -1,6 +1,8 @@
 pub mod Entries
+pub mod Faults
 pub mod Faultless
 pub mod Known
+pub mod Outcomes
 pub mod Packs
 pub mod ReadingLemmas
 pub mod ReplyMeans

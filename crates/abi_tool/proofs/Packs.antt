@@ -1,52 +1,41 @@
 -- Status 0 of `pack` says what the headline says.
-use Rattle.std.proofs.Common.{◌≡◌, inl, inr, ℕ, ◌*◌, ◌/◌, ◌%◌, ◌<◌, Bool, true, false, List, [], Option, Some, None, IfSome, cond, ltb, refl, sym, subst, ◌∙◌, length, arith}
+use Rattle.std.proofs.Common.{◌≡◌, ℕ, List, [], ◌∷◌, Option, Some, None, Ok, IfSome, codes, refl, sym, subst}
 use Rattle.std.specs.Io.KnownBytes.{Appends}
-use Rattle.std.proofs.lemmas.Bool.{eq-eqb}
-use Rattle.std.specs.Int.{bit_at}
 use Rattle.serde_json.specs.Data.{Data}
 use Rattle.abi_num.specs.declared.target.Target.{Target}
-use Rattle.abi_bits.specs.Mask.{mask_at}
 use Rattle.abi_det.specs.Offers.{One}
+use Rattle.abi_layout.specs.Faults.{desc_fault}
 use Rattle.abi_layout.specs.Frames.{written_frame}
 use Rattle.abi_layout.specs.Trees.{Tree}
-use Rattle.abi_pack.specs.Descriptions.{planned}
 use Rattle.abi_pack.specs.Image.{Image as Bytes, AreBytes, bytes_of}
 use Rattle.abi_pack.specs.Jobs.{job_fault, image_of}
-use Rattle.abi_pack.specs.Packed.{packed}
 use Rattle.abi_pack.specs.Plain.{Plain}
-use Rattle.abi_pack.specs.PlanLaws.{IsPlanFor}
-use Rattle.abi_pack.specs.Shows.{Shows}
-use Rattle.abi_pack.specs.declared.abi_error.AbiError.{AbiError}
-use Rattle.abi_pack.proofs.Lawful.{unique_law, change_law, item_law, packed_image}
-use Rattle.abi_pack.proofs.Plans.{faultless_planned}
-use Rattle.abi_document.specs.Documents.{Task, pack, PlainJob, job_of}
+use Rattle.abi_pack.specs.Values.{Shows, IsImageOf}
+use Rattle.abi_pack.proofs.Lawful.{unique_law, change_law, item_law}
+use Rattle.abi_pack.proofs.Promised.{image_law}
+use Rattle.abi_document.specs.Documents.{Task, pack, job_of}
 use Rattle.abi_document.specs.declared.command.Command.TheVariants.{Pack}
-use Rattle.abi_tool.specs.declared.answer.Answer.TheVariants.{TooLong}
-use Rattle.abi_tool.specs.declared.answer.Reply.{Reply}
+use Rattle.abi_tool.specs.Answers.{reply_to, reply_to_bytes, Replies, Answers}
 use Rattle.abi_tool.specs.Lines.{image_text}
+use Rattle.abi_tool.specs.Outcomes.{unless, pack_fault, task_outcome}
 use Rattle.abi_tool.specs.Reading.{reading}
-use Rattle.abi_tool.specs.Moves.{limit}
-use Rattle.abi_tool.specs.Reply.{reply_by, reply_to_task, reply_to_document, reply_to_tree}
-use Rattle.abi_tool.specs.Answers.{code_of, reply_to_reading, reply_to_bytes, Replies}
+use Rattle.abi_tool.specs.declared.fault.Fault.{Fault}
 use Rattle.abi_tool.specs.Headline.{AgreesOutside, ShowsOnly, Packs}
 use Rattle.abi_tool.proofs.Faultless.{IsFaultless, faultless}
+use Rattle.abi_tool.proofs.Faults.{no_job_fault}
+use Rattle.abi_tool.proofs.ReplyToBytes.{done_reply}
 use Rattle.abi_tool.proofs.Sized.{are_sized}
 
 -- ---- an image that differs in free bits alone
 
-shown_still : (target : Target) (t : Tree) (v : Plain) (f g : Bytes) → IsPlanFor (written_frame One target t) (planned One target t) → AreBytes f → AreBytes g
-    → Shows (planned One target t) v f → AgreesOutside (written_frame One target t).free (written_frame One target t).size f g → Shows (planned One target t) v g
-shown_still target t v f g plan bf bg shown same =
-    change_law (planned One target t) v f g plan.sound bf bg shown
-    (λ n lt taken. let low : n < 8 * (written_frame One target t).size = rw plan.same_size at lt in
-    same n low (λ has. taken (plan.same_free (n / 8) (n % 8) (omega arith) (omega arith) ∙ eq-eqb (bit_at (mask_at (written_frame One target t).free (n / 8)) (n % 8)) 1 has)))
-
-shows_only : (target : Target) (t : Tree) (v : Plain) (g : Bytes) → IsPlanFor (written_frame One target t) (planned One target t)
-    → Shows (planned One target t) v g → ShowsOnly target t v g
-shows_only target t v g plan shown = record {
-  shown = λ w. (λ h. unique_law (planned One target t) w v g h shown, λ e. subst (λ x. Shows (planned One target t) x g) (sym e) shown);
-  allowed = rw (sym plan.same_items) (item_law (planned One target t) v g shown);
-}
+shows_only : (target : Target) (t : Tree) (v : Plain) (f g : Bytes) → desc_fault One target t ≡ None → AreBytes f → AreBytes g
+    → Shows One target t v f → AgreesOutside (written_frame One target t).free (written_frame One target t).size f g → ShowsOnly target t v g
+shows_only target t v f g none bf bg shown same =
+    let still : Shows One target t v g = change_law One target t v f g none bf bg shown same in
+    record {
+      shown = λ w. (λ h. unique_law One target t w v g bg h still, λ e. subst (λ x. Shows One target t x g) (sym e) still);
+      allowed = item_law One target t v g none bg still;
+    }
 
 -- ---- the image of a job
 
@@ -56,8 +45,7 @@ packs_job : (bytes : List ℕ) (old new : Option (List ℕ)) (tree : Data) (targ
 unfolding image_of
 packs_job bytes old new tree target desc value r j f w =
     let n : IsFaultless One target desc value = faultless One target desc value f in
-    let plan = faultless_planned One target desc n.row n.parts in
-    let p = packed_image (planned One target desc) value plan.sound n.fit in
+    let p : IsImageOf One target desc value (image_of One target desc value).bytes = image_law One target desc value f in
     record {
       tree = tree;
       target = target;
@@ -71,54 +59,32 @@ packs_job bytes old new tree target desc value r j f w =
       is_layout = refl;
       are_sums = refl;
       are_sized = are_sized target 0 desc n.row n.parts;
-      fills = p.string.long ∙ plan.same_size;
+      fills = p.long;
       canonical = p.canonical;
-      shows = λ g small same.
-          shows_only target desc value g plan
-          (shown_still target desc value (bytes_of (packed (planned One target desc) value)) g plan p.string.bytes small p.canonical.shows same);
+      shows = λ g small same. shows_only target desc value (bytes_of (image_of One target desc value).bytes) g n.desc p.bytes small p.canonical.shows same;
     }
 
 -- ---- from the reply
 
-packs_fault : (bytes : List ℕ) (old new : Option (List ℕ)) (tree : Data) (target : Target) (desc : Tree) (value : Plain) (fault : Option AbiError)
-    → reading bytes ≡ Some tree → job_of Pack tree ≡ Some (record { target = target; task = pack desc value }) → job_fault One target desc value ≡ fault
-    → let reply : Reply = reply_by fault (image_of One target desc value) in code_of reply.answer ≡ 0 → Appends old new reply.text → Packs bytes old new
-packs_fault bytes old new tree target desc value (Some fault) r j f c w = absurd (omega (arith, c))
-packs_fault bytes old new tree target desc value None r j f c w = packs_job bytes old new tree target desc value r j f w
+packs_by : (bytes : List ℕ) (old new : Option (List ℕ)) (tree : Data) (target : Target) (desc : Tree) (value : Plain) (fault : Option Fault) (text : List ℕ)
+    → reading bytes ≡ Some tree → job_of Pack tree ≡ Some (record { target = target; task = pack desc value }) → pack_fault target desc value ≡ fault
+    → unless fault (image_text (image_of One target desc value)) ≡ Ok text → Appends old new text → Packs bytes old new
+packs_by bytes old new tree target desc value (Some fault) text r j f o w = absurd (cc)
+packs_by bytes old new tree target desc value None text r j f o w =
+    let same : image_text (image_of One target desc value) ≡ text = cc in
+    packs_job bytes old new tree target desc value r j (no_job_fault target desc value f) (subst (λ t. Appends old new t) (sym same) w)
 
-packs_task : (bytes : List ℕ) (old new : Option (List ℕ)) (tree : Data) (target : Target) (task : Task) → reading bytes ≡ Some tree
-    → job_of Pack tree ≡ Some (record { target = target; task = task }) → code_of (reply_to_task target task).answer ≡ 0
-    → Appends old new (reply_to_task target task).text → Packs bytes old new
-packs_task bytes old new tree target (pack desc value) r j c w =
-    packs_fault bytes old new tree target desc value (job_fault One target desc value) r j refl c w
-
-packs_document : (bytes : List ℕ) (old new : Option (List ℕ)) (tree : Data) (job : Option PlainJob) → reading bytes ≡ Some tree → job_of Pack tree ≡ job
-    → code_of (reply_to_document job).answer ≡ 0 → Appends old new (reply_to_document job).text → Packs bytes old new
-packs_document bytes old new tree None r j c w = absurd (omega (arith, c))
-packs_document bytes old new tree (Some job) r j c w = packs_task bytes old new tree job.target job.task r j c w
-
-packs_reading : (bytes : List ℕ) (old new : Option (List ℕ)) (tree : Option Data) → reading bytes ≡ tree
-    → code_of (reply_to_reading Pack tree).answer ≡ 0 → Appends old new (reply_to_reading Pack tree).text → Packs bytes old new
-unfolding reply_to_tree
-packs_reading bytes old new None r c w = absurd (omega (arith, c))
-packs_reading bytes old new (Some tree) r c w = packs_document bytes old new tree (job_of Pack tree) r refl c w
-
-packs_if : (bytes : List ℕ) (old new : Option (List ℕ)) (long : Bool) → let reply : Reply = cond long (record { answer = TooLong; text = [] }) (reply_to_reading Pack (reading bytes)) in
-    code_of reply.answer ≡ 0 → Appends old new reply.text → Packs bytes old new
-packs_if bytes old new true c w = absurd (omega (arith, c))
-packs_if bytes old new false c w = packs_reading bytes old new (reading bytes) refl c w
-
-packs_bytes : (bytes : List ℕ) (old new : Option (List ℕ)) → code_of (reply_to_bytes Pack bytes).answer ≡ 0 → Appends old new (reply_to_bytes Pack bytes).text → Packs bytes old new
-unfolding reply_to_bytes
-packs_bytes bytes old new c w = packs_if bytes old new (ltb limit (length bytes)) c w
+packs_task : (bytes : List ℕ) (old new : Option (List ℕ)) (tree : Data) (target : Target) (task : Task) (text : List ℕ) → reading bytes ≡ Some tree
+    → job_of Pack tree ≡ Some (record { target = target; task = task }) → task_outcome target task ≡ Ok text → Appends old new text → Packs bytes old new
+packs_task bytes old new tree target (pack desc value) text r j o w = packs_by bytes old new tree target desc value (pack_fault target desc value) text r j refl o w
 
 packs_reply : (bytes : List ℕ) (old new : Option (List ℕ)) (status : ℕ) → Replies (reply_to_bytes Pack bytes) old new status → status ≡ 0 → Packs bytes old new
-packs_reply bytes old new status (inl done) z = packs_bytes bytes old new (sym done.0 ∙ z) done.1
-packs_reply bytes old new status (inr (inl part)) z = absurd (omega (arith, part.0, z))
-packs_reply bytes old new status (inr (inr (inl fault))) z = absurd (omega (arith, fault.0, z))
-packs_reply bytes old new status (inr (inr (inr memory))) z = absurd (omega (arith, memory.0, z))
+packs_reply bytes old new status h z =
+    let done = done_reply Pack bytes old new status h z in
+    let job = done.1.comes.job in
+    packs_task bytes old new done.1.tree job.target job.task done.0 done.1.is_read done.1.comes.is_job done.1.comes.is_text done.2
 
-pub packs_told : (told old new : Option (List ℕ)) (status : ℕ) → IfSome told (λ bytes. Replies (reply_to_bytes Pack bytes) old new status)
-    → IfSome told (λ bytes. status ≡ 0 → Packs bytes old new)
-packs_told None old new status h = h
-packs_told (Some bytes) old new status h = packs_reply bytes old new status h
+pub packs_told : (words : List (List ℕ)) (told old new : Option (List ℕ)) (status : ℕ) → IfSome told (λ bytes. Answers (reply_to words bytes) old new status)
+    → words ≡ codes "pack" ∷ [] → IfSome told (λ bytes. status ≡ 0 → Packs bytes old new)
+packs_told words None old new status h e = h
+packs_told words (Some bytes) old new status h e = packs_reply bytes old new status (subst (λ w. Answers (reply_to w bytes) old new status) e h)

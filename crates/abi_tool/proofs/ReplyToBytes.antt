@@ -1,5 +1,6 @@
 -- What the reply to bytes says of them, and what the sink has after it.
-use Rattle.std.proofs.Common.{◌≡◌, ℕ, ◌+◌, ◌<◌, ◌≤◌, ◌==◌, if◌then◌else◌, List, [], ◌++◌, Bool, true, false, cond, Option, Some, None, IfSome, length, nat_lt, refl, sym, ap, subst, ◌∙◌, arith, length-append}
+use Rattle.std.proofs.Common.{◌≡◌, inl, inr, ℕ, ◌+◌, ◌<◌, ◌≤◌, ◌==◌, if◌then◌else◌, List, [], ◌++◌, Bool, true, false, cond, Option, Some, None, IfSome, length, nat_lt, refl, sym, ap, subst, ◌∙◌, arith, length-append}
+use Rattle.std.specs.Io.KnownBytes.{Appends}
 use Rattle.std.proofs.lemmas.Bool.{lt-ltb, ltb-true, ltb-false}
 use Rattle.serde_json.specs.Data.{Data}
 use Rattle.abi_document.specs.declared.command.Command.{Command}
@@ -8,9 +9,9 @@ use Rattle.abi_tool.specs.declared.answer.Answer.TheVariants.{Done, TooLong, Not
 use Rattle.abi_tool.specs.declared.answer.Reply.{Reply}
 use Rattle.abi_tool.specs.Moves.{limit, CameTooLong}
 use Rattle.abi_tool.specs.Reading.{reading}
-use Rattle.abi_tool.specs.Reply.{reply_to_tree, TreeMeans}
-use Rattle.abi_tool.specs.Answers.{code_of, reply_to_reading, reply_to_bytes, Means}
-use Rattle.abi_tool.proofs.ReplyMeans.{means_tree}
+use Rattle.abi_tool.specs.Reply.{reply_to_tree}
+use Rattle.abi_tool.specs.Answers.{code_of, reply_to_reading, reply_to_bytes, Replies, Means}
+use Rattle.abi_tool.proofs.ReplyMeans.{TreeMeans, means_tree, ComesOf, done_tree}
 
 -- the reply with "too long" chosen by a flag, in the place of the test of the length
 abbrev chosen : Command → Bool → Option Data → Reply
@@ -107,21 +108,27 @@ told_too_long command (Some bytes) (Some rest) text came e =
     ap (λ (t : List ℕ). record { answer = TooLong; text = t }) e
     ∙ too_long command bytes (longer bytes came.bytes rest came.came came.long)
 
-done_chosen : (command : Command) (long : Bool) (tree : Option Data) → code_of (chosen command long tree).answer ≡ 0
-    → (found : Data) × (tree ≡ Some found) × (chosen command long tree ≡ reply_to_tree command found)
-done_chosen command true tree e = absurd (omega (arith, e))
-done_chosen command false None e = absurd (omega (arith, e))
-done_chosen command false (Some tree) e = (tree, refl, refl)
+-- the bytes have a tree, and it is a job of which this text comes
+pub record IsWritten (command : Command) (bytes text : List ℕ) : Type 0 where
+  pub tree : Data
+  pub is_read : reading bytes ≡ Some tree
+  pub comes : ComesOf command tree text
+
+done_chosen : (command : Command) (bytes : List ℕ) (long : Bool) (tree : Option Data) → reading bytes ≡ tree
+    → code_of (chosen command long tree).answer ≡ 0 → IsWritten command bytes (chosen command long tree).text
+done_chosen command bytes true tree r c = absurd (omega (arith, c))
+done_chosen command bytes false None r c = absurd (omega (arith, c))
+done_chosen command bytes false (Some tree) r c = record { tree = tree; is_read = r; comes = done_tree command tree c }
 
 done_bytes : (command : Command) (bytes : List ℕ) → code_of (reply_to_bytes command bytes).answer ≡ 0
-    → (tree : Data) × (reading bytes ≡ Some tree) × (reply_to_bytes command bytes ≡ reply_to_tree command tree)
+    → IsWritten command bytes (reply_to_bytes command bytes).text
 unfolding reply_to_bytes
-done_bytes command bytes e = done_chosen command (nat_lt limit (length bytes)) (reading bytes) e
+done_bytes command bytes c = done_chosen command bytes (nat_lt limit (length bytes)) (reading bytes) refl c
 
--- status 0 is that of a reply to a tree
-pub done_reply : (command : Command) (bytes : List ℕ) (reply : Reply) → reply ≡ reply_to_bytes command bytes → code_of reply.answer ≡ 0
-    → (tree : Data) × (reading bytes ≡ Some tree) × (reply ≡ reply_to_tree command tree)
-done_reply command bytes reply told e =
-    let found : (tree : Data) × (reading bytes ≡ Some tree) × (reply_to_bytes command bytes ≡ reply_to_tree command tree)
-    = done_bytes command bytes (sym (ap (λ (r : Reply). code_of r.answer) told) ∙ e)
-    in (found.0, found.1, told ∙ found.2)
+-- with status 0 the sink got the text that comes of the job
+pub done_reply : (command : Command) (bytes : List ℕ) (old new : Option (List ℕ)) (status : ℕ) → Replies (reply_to_bytes command bytes) old new status → status ≡ 0
+    → (text : List ℕ) × IsWritten command bytes text × Appends old new text
+done_reply command bytes old new status (inl done) z = ((reply_to_bytes command bytes).text, done_bytes command bytes (sym done.0 ∙ z), done.1)
+done_reply command bytes old new status (inr (inl part)) z = absurd (omega (arith, part.0, z))
+done_reply command bytes old new status (inr (inr (inl fault))) z = absurd (omega (arith, fault.0, z))
+done_reply command bytes old new status (inr (inr (inr memory))) z = absurd (omega (arith, memory.0, z))

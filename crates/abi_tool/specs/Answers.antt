@@ -1,9 +1,9 @@
 -- The program as a function of its words and the bytes of its document: a status, and the text that is written.
 use Rattle.std.specs.Prelude.{◌≡◌, ◌⊎◌, ℕ, ◌+◌, ◌<◌, ◌≤◌, ◌==◌, List, [], ◌∷◌, Option, Some, None, codes, length, drop, nat_lt, if◌then◌else◌}
 use Rattle.std.specs.Option.{option_map}
-use Rattle.std.specs.Str.{bytes_eq}
 use Rattle.std.specs.Io.KnownBytes.{Appends, Keeps}
 use Rattle.serde_json.specs.Data.{Data}
+use Rattle.abi_document.specs.Forms.{by_name}
 use Rattle.abi_document.specs.declared.command.Command.{Command}
 use Rattle.abi_document.specs.declared.command.Command.TheVariants.{Pack}
 use Rattle.abi_tool.specs.declared.answer.Answer.{Answer}
@@ -11,15 +11,19 @@ use Rattle.abi_tool.specs.declared.answer.Answer.TheVariants.{Done, TooLong, Not
 use Rattle.abi_tool.specs.declared.answer.Reply.{Reply}
 use Rattle.abi_tool.specs.Moves.{limit, WentInPart}
 use Rattle.abi_tool.specs.Reading.{reading}
-use Rattle.abi_tool.specs.Reply.{reply_to_tree, TreeMeans}
+use Rattle.abi_tool.specs.Reply.{reply_to_tree, IsDone, IsNoJob, IsRefused}
+use Rattle.abi_tool.specs.declared.command.Invocation.{Invocation}
+use Rattle.abi_tool.specs.declared.command.Invocation.TheVariants.{Document}
 
-abbrev pub named_command : List ℕ → Option Command
-named_command word = if bytes_eq word (codes "pack") then Some Pack else None
+-- the commands that read a document
+abbrev pub commands : List (List ℕ × Command)
+commands = (codes "pack", Pack) ∷ []
 
-abbrev pub command_of : List (List ℕ) → Option Command
-command_of [] = None
-command_of (word ∷ []) = named_command word
-command_of (word ∷ more ∷ words) = None
+-- what the words ask for, where they are listed
+abbrev pub invocation_of : List (List ℕ) → Option Invocation
+invocation_of [] = None
+invocation_of (word ∷ []) = option_map Document (by_name commands word)
+invocation_of (word ∷ more ∷ words) = None
 
 -- the exit status of an answer; 1 stands for unlisted words, 2 and 3 for a fault, 8 for want of memory
 abbrev pub code_of : Answer → ℕ
@@ -37,9 +41,12 @@ unfoldable pub reply_to_bytes : Command → List ℕ → Reply
 reply_to_bytes command bytes =
     if nat_lt limit (length bytes) then record { answer = TooLong; text = [] } else reply_to_reading command (reading bytes)
 
+abbrev pub reply_to_invocation : Invocation → List ℕ → Reply
+reply_to_invocation (Document command) bytes = reply_to_bytes command bytes
+
 -- the reply to words and a document; unlisted words have none
 abbrev pub reply_to : List (List ℕ) → List ℕ → Option Reply
-reply_to words bytes = option_map (λ command. reply_to_bytes command bytes) (command_of words)
+reply_to words bytes = option_map (λ asked. reply_to_invocation asked bytes) (invocation_of words)
 
 -- the sink got the reply's text, or a beginning of it with status 3, or nothing with status 2 or 8
 abbrev pub Replies : Reply → Option (List ℕ) → Option (List ℕ) → ℕ → Type 0
@@ -58,26 +65,30 @@ abbrev pub status_of : Option Reply → ℕ
 status_of None = 1
 status_of (Some reply) = code_of reply.answer
 
+-- the bytes are not too long, and have a tree of which this holds
+abbrev pub HasTree : List ℕ → (Data → Type 0) → Type 0
+HasTree bytes P = (length bytes ≤ limit) × ((tree : Data) × (reading bytes ≡ Some tree) × P tree)
+
 -- what an answer says of the document's bytes
 abbrev pub Means : Command → Answer → List ℕ → Type 0
 Means command TooLong bytes = limit < length bytes
 Means command NotJson bytes = (length bytes ≤ limit) × (reading bytes ≡ None)
-Means command Done bytes = (length bytes ≤ limit) × ((tree : Data) × (reading bytes ≡ Some tree) × TreeMeans command Done tree)
-Means command NotAJob bytes = (length bytes ≤ limit) × ((tree : Data) × (reading bytes ≡ Some tree) × TreeMeans command NotAJob tree)
-Means command Refused bytes = (length bytes ≤ limit) × ((tree : Data) × (reading bytes ≡ Some tree) × TreeMeans command Refused tree)
+Means command NotAJob bytes = HasTree bytes (IsNoJob command)
+Means command Refused bytes = HasTree bytes (IsRefused command)
+Means command Done bytes = HasTree bytes (IsDone command)
 
 -- what a status says of the document's bytes, where it is that of an answer
-abbrev pub StatusMeans : Option Command → ℕ → List ℕ → Type 0
+abbrev pub StatusMeans : Option Invocation → ℕ → List ℕ → Type 0
 StatusMeans None status bytes = status ≡ 1
-StatusMeans (Some command) status bytes = (answer : Answer) → status ≡ code_of answer → Means command answer bytes
+StatusMeans (Some (Document command)) status bytes = (answer : Answer) → status ≡ code_of answer → Means command answer bytes
 
 -- what a document's source still has after a status other than 2 and 8
 abbrev pub rest_of_document : ℕ → List ℕ → List ℕ
 rest_of_document status bytes = if status == 4 then drop (limit + 1) bytes else []
 
-abbrev pub rest_after : Option Command → ℕ → List ℕ → List ℕ
+abbrev pub rest_after : Option Invocation → ℕ → List ℕ → List ℕ
 rest_after None status bytes = bytes
-rest_after (Some command) status bytes = rest_of_document status bytes
+rest_after (Some (Document command)) status bytes = rest_of_document status bytes
 
 -- the statuses with which nothing is written
 abbrev pub IsSilent : ℕ → Type 0

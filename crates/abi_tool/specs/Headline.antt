@@ -1,5 +1,5 @@
 -- What status 0 of `pack` says: an image with the written layout was written, which shows the job's value and no other.
-use Rattle.std.specs.Prelude.{◌≡◌, ◌↔◌, ℕ, ◌+◌, ◌*◌, ◌<◌, List, true, false, Option, Some, None, length}
+use Rattle.std.specs.Prelude.{◌≡◌, ◌↔◌, ℕ, ◌+◌, ◌*◌, ◌<◌, List, Bool, true, false, Option, Some, None, length}
 use Rattle.std.specs.List.{list_any}
 use Rattle.std.specs.Io.KnownBytes.{Appends}
 use Rattle.serde_json.specs.Data.{Data}
@@ -14,16 +14,14 @@ use Rattle.abi_det.specs.Niches.{IsNiche, OffersNone}
 use Rattle.abi_det.specs.declared.placements.Kind.{Kind}
 use Rattle.abi_det.specs.declared.determinant.Test.{Test}
 use Rattle.abi_layout.specs.Frames.{written_frame}
-use Rattle.abi_layout.specs.Prims.{unit_frame}
+use Rattle.abi_layout.specs.Sums.{written_sums}
 use Rattle.abi_layout.specs.Trees as trees
 use Rattle.abi_layout.specs.Trees.{Tree, Branches}
-use Rattle.abi_pack.specs.Descriptions.{planned}
 use Rattle.abi_pack.specs.Image.{Image as Bytes, AreBytes, bytes_of}
 use Rattle.abi_pack.specs.Jobs.{job_fault}
 use Rattle.abi_pack.specs.Laws.{bit_of}
 use Rattle.abi_pack.specs.Plain.{Plain}
-use Rattle.abi_pack.specs.Shows.{Shows, IsCanonical}
-use Rattle.abi_pack.specs.Sums.{written_sums}
+use Rattle.abi_pack.specs.Values.{Shows, IsCanonical}
 use Rattle.abi_pack.specs.declared.image.Image.{Image}
 use Rattle.abi_document.specs.Documents.{pack, job_of}
 use Rattle.abi_document.specs.declared.command.Command.TheVariants.{Pack}
@@ -36,7 +34,7 @@ AgreesOutside free size f g = (n : ℕ) → n < 8 * size → (Has free n → ⊥
 
 -- the image shows this value and no other, and matches no forbidden item
 pub record ShowsOnly (target : Target) (t : Tree) (value : Plain) (image : Bytes) : Type 0 where
-  pub shown : (v : Plain) → Shows (planned One target t) v image ↔ (v ≡ value)
+  pub shown : (v : Plain) → Shows One target t v image ↔ (v ≡ value)
   pub allowed : list_any (is_match image) (written_frame One target t).forbids ≡ false
 
 -- a sum is as large as its larger variant, rounded up, and by one alignment larger exactly where no existing place offers a niche
@@ -50,11 +48,9 @@ abbrev mutual
   pub AreSized : Target → Tree → Type 0
   AreSized target (trees.prim p) = Unit {0}
   AreSized target (trees.struct label fs align) = AreSizedIn target fs
-  AreSized target (trees.result ok err) =
-      IsSized (written_frame One target ok) (written_frame One target err) (written_frame One target (trees.result ok err))
-      × AreSized target ok × AreSized target err
-  AreSized target (trees.option some) =
-      IsSized (written_frame One target some) unit_frame (written_frame One target (trees.option some)) × AreSized target some
+  AreSized target (trees.sum names side) =
+      IsSized (written_frame One target (side true)) (written_frame One target (side false)) (written_frame One target (trees.sum names side))
+      × ((first : Bool) → AreSized target (side first))
 
   pub AreSizedIn : Target → Branches → Type 0
   AreSizedIn target trees.none = Unit {0}
@@ -76,5 +72,5 @@ pub record Packs (bytes : List ℕ) (old new : Option (List ℕ)) : Type 0 where
   pub are_sums : image.placed ≡ written_sums One target 0 desc
   pub are_sized : AreSized target desc
   pub fills : length image.bytes ≡ image.layout.size
-  pub canonical : IsCanonical (planned One target desc) value (bytes_of image.bytes)
+  pub canonical : IsCanonical One target desc value (bytes_of image.bytes)
   pub shows : (f : Bytes) → AreBytes f → AgreesOutside image.layout.free image.layout.size (bytes_of image.bytes) f → ShowsOnly target desc value f

@@ -4,5 +4,6 @@ pub mod Headline
 pub mod Lines
 pub mod Memory
 pub mod Moves
+pub mod Outcomes
 pub mod Reading
 pub mod Reply

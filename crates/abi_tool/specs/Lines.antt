@@ -1,5 +1,6 @@
 -- The lines that the program writes. Numbers are decimal.
-use Rattle.std.specs.Prelude.{ℕ, List, [], ◌∷◌, ◌++◌, Bool, codes, decimal, flat_map, if◌then◌else◌}
+use Rattle.std.specs.Prelude.{◌≡◌, ℕ, List, [], ◌∷◌, ◌++◌, Bool, codes, decimal, flat_map, if◌then◌else◌, String, string_bytes}
+use Rattle.std.specs.declared.alloc.Global.{Global}
 use Rattle.hex.specs.Hex.{encode_lower}
 use Rattle.abi_bits.specs.Pairs.{Pair}
 use Rattle.abi_bits.specs.Forbidden.{Item, pattern, range}
@@ -10,10 +11,14 @@ use Rattle.abi_det.specs.declared.placements.Kind.{Kind}
 use Rattle.abi_det.specs.declared.placements.Kind.TheVariants as kind
 use Rattle.abi_det.specs.declared.determinant.Test.{Test}
 use Rattle.abi_det.specs.declared.determinant.Test.TheVariants as test
-use Rattle.abi_pack.specs.declared.image.Placed.{Placed}
+use Rattle.abi_layout.specs.declared.placed.Placed.{Placed}
 use Rattle.abi_pack.specs.declared.image.Image.{Image}
-use Rattle.abi_pack.specs.declared.abi_error.AbiError.{AbiError}
-use Rattle.abi_pack.specs.declared.abi_error.AbiError.TheVariants as fault
+use Rattle.abi_tool.specs.declared.fault.Fault.{Fault}
+use Rattle.abi_tool.specs.declared.fault.Fault.TheVariants as fault
+
+-- the text went behind what was written before
+abbrev pub Adds : String Global → String Global → List ℕ → Type 0
+Adds old new text = string_bytes new ≡ string_bytes old ++ text
 
 unfoldable pub size_line : ℕ → List ℕ
 size_line size = codes "size " ++ decimal size ++ codes "\n"
@@ -106,14 +111,12 @@ sum_lines ps = flat_map sum_line ps
 unfoldable pub image_text : Image → List ℕ
 image_text image = layout_lines image.layout ++ sum_lines image.placed ++ bytes_line image.bytes
 
--- want of memory is no fault of a job, and has no text
-unfoldable pub fault_text : AbiError → List ℕ
+unfoldable pub fault_text : Fault → List ℕ
 fault_text fault.BadTarget = codes "BadTarget"
 fault_text fault.TooManyParts = codes "TooManyParts"
 fault_text (fault.IllFormed part) = codes "IllFormed part " ++ decimal part
 fault_text (fault.TooLarge part) = codes "TooLarge part " ++ decimal part
-fault_text fault.OutOfMemory = []
 fault_text fault.WrongValue = codes "WrongValue"
 
-unfoldable pub refused_line : AbiError → List ℕ
+unfoldable pub refused_line : Fault → List ℕ
 refused_line f = codes "refused: " ++ fault_text f ++ codes "\n"

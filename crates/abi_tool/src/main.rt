@@ -4,12 +4,19 @@
 mod answer;
 mod command;
 mod failed;
+mod fault;
+mod job_error;
+#[cfg(test)]
+mod library_tests;
 mod mem_sink;
 mod mem_source;
+mod outcome;
 #[cfg(test)]
-mod pack_tests;
+mod plan_tests;
 mod read_all;
 mod reading;
+#[cfg(test)]
+mod refused_tests;
 mod reply;
 mod run_document;
 mod sink;
@@ -19,8 +26,12 @@ mod std_source;
 #[cfg(test)]
 mod tests;
 mod text;
+#[cfg(test)]
+mod text_tests;
 mod tool;
 mod write_all;
+#[cfg(test)]
+mod written_tests;
 
 use abi_num::Text;
 use std::env;

@@ -1,16 +1,15 @@
-ghost use Rattle.std.specs.Prelude.{◌≡◌, [], IfOk};
+ghost use Rattle.std.specs.Prelude.{◌≡◌, IfOk};
 ghost use Rattle.serde_json.specs.View.{view};
-ghost use Rattle.abi_layout.specs.Trees.{tree};
-ghost use Rattle.abi_pack.specs.View.{plain};
-ghost use Rattle.abi_document.specs.Documents.{HasNoEdits, pack, task_of};
-ghost use Rattle.abi_tool.specs.Reply.{reply_to_task, reply_to_tree};
+ghost use Rattle.abi_document.specs.Documents.{HasNoEdits, plain_job};
+ghost use Rattle.abi_tool.specs.Outcomes.{outcome_of};
+ghost use Rattle.abi_tool.specs.Reply.{reply_by, reply_to_tree};
 
 use crate::answer::{Answer, Reply};
-use crate::text::{refused, text_of};
-use abi_document::{Command, Job, Work, job_of};
-use abi_layout::Desc;
-use abi_num::{OutOfMemory, Target, Text};
-use abi_pack::{AbiError, Edit, run};
+use crate::job_error::JobError;
+use crate::outcome::outcome_of;
+use crate::text::refused;
+use abi_document::{Command, Job, job_of};
+use abi_num::{OutOfMemory, Text};
 use serde_json::Value;
 use std::alloc::Global;
 
@@ -28,36 +27,20 @@ pub fn reply_to_tree(alloc: Global, command: Command, tree: &Value) -> Result<Re
     }
 }
 
+// The reply to a job of any command.
 fn reply_to_job(alloc: Global, job: &Job) -> Result<Reply, OutOfMemory>
     requires { HasNoEdits job.now.work }
-    ensures { IfOk result (λ reply. reply ≡ reply_to_task job.now.target (task_of job.now.work)) }
+    ensures { IfOk result (λ reply. reply ≡ reply_by (outcome_of (plain_job job.now))) }
 {
-    match &job.work {
-        Work::Pack { desc, value, edits } => {
-            reply_to_pack(alloc, &job.target, desc, value, edits.as_slice())
-        }
-    }
-}
-
-fn reply_to_pack(
-    alloc: Global,
-    target: &Target,
-    desc: &Desc,
-    value: &abi_pack::Value,
-    edits: &[Edit],
-) -> Result<Reply, OutOfMemory>
-    requires { edits.now ≡ [] }
-    ensures { IfOk result (λ reply. reply ≡ reply_to_task target.now (pack (tree desc.now) (plain value.now))) }
-{
-    match run(alloc, target, desc, value, edits) {
-        Ok(image) => Ok(Reply {
+    match outcome_of(alloc, job) {
+        Ok(text) => Ok(Reply {
             answer: Answer::Done,
-            text: text_of(alloc, &image)?,
+            text,
         }),
-        Err(AbiError::OutOfMemory) => Err(OutOfMemory),
-        Err(fault) => Ok(Reply {
+        Err(JobError::Fault(fault)) => Ok(Reply {
             answer: Answer::Refused,
             text: refused(alloc, fault)?,
         }),
+        Err(JobError::OutOfMemory) => Err(OutOfMemory),
     }
 }

@@ -66,7 +66,8 @@ pub fn run_document<S: Source, K: Sink>(
 // The reply to the document that the source gives.
 #[tactic(auto, using(crate::proofs::ReplyToBytes::silent_reply))]
 fn read_reply<S: Source>(alloc: Global, command: Command, source: &mut S) -> Result<Reply, Stop>
-    ensures told { IfOk result (λ reply. IfSome (S.left source.old) (λ bytes. reply ≡ reply_to_bytes command bytes)) }
+    ensures told { IfOk result (λ reply. IfSome (S.left source.old) (λ bytes.
+        reply ≡ reply_to_bytes command bytes)) }
     ensures silent { IfOk result (λ reply. code_of reply.answer ≡ 4 → reply.text ≡ []) }
     ensures fault { result ≡ Err Stop.Fault → Rose (S.faults source.old) (S.faults source.new) }
     ensures rest { IfOk result (λ reply. IfSome (S.left source.old) (λ bytes.

@@ -1,13 +1,15 @@
 //! The lines that the program writes.
 
-ghost use Rattle.std.specs.Prelude.{◌≡◌, ◌++◌, List, ℕ, IfOk, OnOk, string_bytes, flat_map};
+ghost use Rattle.std.specs.Prelude.{◌≡◌, IfOk, OnOk};
 ghost use Rattle.abi_bits.specs.Forbidden.{items};
-ghost use Rattle.abi_tool.specs.Lines.{size_line, align_line, niches_line, indirections_line, entry_text, entries_text, free_line, pair_text, pairs_text, more_pairs_text, items_text, forbidden_line, layout_lines, side_text, niche_text, meaning_text, places_text, sum_line, sum_lines, bytes_line, image_text, fault_text, refused_line};
+ghost use Rattle.abi_tool.specs.Lines.{Adds, size_line, align_line, niches_line, indirections_line, entry_text, entries_text, free_line, pair_text, pairs_text, more_pairs_text, items_text, forbidden_line, layout_lines, side_text, niche_text, meaning_text, places_text, sum_line, sum_lines, bytes_line, image_text, refused_line};
 
+use crate::fault::Fault;
 use abi_bits::{BitMask, ForbiddenValues, SaturatingAddValue};
 use abi_det::{Kind, Layout, Test};
+use abi_layout::Placed;
 use abi_num::{OutOfMemory, Text};
-use abi_pack::{AbiError, Image, Placed};
+use abi_pack::Image;
 use std::alloc::{AllocError, Global};
 use std::fmt::Write;
 
@@ -23,36 +25,17 @@ pub fn text_of(alloc: Global, image: &Image) -> Result<Text, OutOfMemory>
     Ok(Text::from(out))
 }
 
-/// The line of a job that cannot be done.
+/// The line of a job that has a fault.
 #[tactic(auto, unfolding(crate::specs::Lines::refused_line))]
-pub fn refused(alloc: Global, fault: AbiError) -> Result<Text, OutOfMemory>
+pub fn refused(alloc: Global, fault: Fault) -> Result<Text, OutOfMemory>
     ensures { IfOk result (λ text. text ≡ refused_line fault) }
 {
-    let mut out = String::new(alloc);
-    out.push_str("refused: ")?;
-    push_fault(&mut out, fault)?;
-    out.push_str("\n")?;
-    Ok(Text::from(out))
-}
-
-// Want of memory is no fault of a job, and has no text.
-#[tactic(auto, unfolding(crate::specs::Lines::fault_text))]
-fn push_fault(out: &mut String, fault: AbiError) -> Result<(), AllocError>
-    ensures { OnOk result (string_bytes out.new ≡ string_bytes out.old ++ fault_text fault) }
-{
-    match fault {
-        AbiError::BadTarget => out.push_str("BadTarget"),
-        AbiError::TooManyParts => out.push_str("TooManyParts"),
-        AbiError::IllFormed { part } => write!(out, "IllFormed part {part}"),
-        AbiError::TooLarge { part } => write!(out, "TooLarge part {part}"),
-        AbiError::OutOfMemory => Ok(()),
-        AbiError::WrongValue => out.push_str("WrongValue"),
-    }
+    Ok(Text::from(format!(in alloc; "refused: {fault}\n")?))
 }
 
 #[tactic(auto, unfolding(crate::specs::Lines::layout_lines))]
 fn push_layout(out: &mut String, layout: &Layout) -> Result<(), AllocError>
-    ensures { OnOk result (string_bytes out.new ≡ string_bytes out.old ++ layout_lines layout.now) }
+    ensures { OnOk result (Adds out.old out.new (layout_lines layout.now)) }
 {
     push_size(out, layout.size())?;
     push_align(out, layout.align())?;
@@ -64,21 +47,21 @@ fn push_layout(out: &mut String, layout: &Layout) -> Result<(), AllocError>
 
 #[tactic(auto, unfolding(crate::specs::Lines::size_line))]
 fn push_size(out: &mut String, size: u64) -> Result<(), AllocError>
-    ensures { OnOk result (string_bytes out.new ≡ string_bytes out.old ++ size_line size) }
+    ensures { OnOk result (Adds out.old out.new (size_line size)) }
 {
     write!(out, "size {size}\n")
 }
 
 #[tactic(auto, unfolding(crate::specs::Lines::align_line))]
 fn push_align(out: &mut String, align: u64) -> Result<(), AllocError>
-    ensures { OnOk result (string_bytes out.new ≡ string_bytes out.old ++ align_line align) }
+    ensures { OnOk result (Adds out.old out.new (align_line align)) }
 {
     write!(out, "align {align}\n")
 }
 
 #[tactic(auto, unfolding(crate::specs::Lines::niches_line))]
 fn push_niches(out: &mut String, niches: SaturatingAddValue) -> Result<(), AllocError>
-    ensures { OnOk result (string_bytes out.new ≡ string_bytes out.old ++ niches_line niches) }
+    ensures { OnOk result (Adds out.old out.new (niches_line niches)) }
 {
     match niches {
         SaturatingAddValue::B0 => out.push_str("niches 0\n"),
@@ -89,7 +72,7 @@ fn push_niches(out: &mut String, niches: SaturatingAddValue) -> Result<(), Alloc
 
 #[tactic(auto, unfolding(crate::specs::Lines::indirections_line))]
 fn push_indirections(out: &mut String, indirections: bool) -> Result<(), AllocError>
-    ensures { OnOk result (string_bytes out.new ≡ string_bytes out.old ++ indirections_line indirections) }
+    ensures { OnOk result (Adds out.old out.new (indirections_line indirections)) }
 {
     out.push_str(if indirections {
         "indirections yes\n"
@@ -100,7 +83,7 @@ fn push_indirections(out: &mut String, indirections: bool) -> Result<(), AllocEr
 
 #[tactic(auto, unfolding(crate::specs::Lines::free_line))]
 fn push_free(out: &mut String, free: &BitMask) -> Result<(), AllocError>
-    ensures { OnOk result (string_bytes out.new ≡ string_bytes out.old ++ free_line free.now) }
+    ensures { OnOk result (Adds out.old out.new (free_line free.now)) }
 {
     out.push_str("free")?;
     push_entries(out, free)?;
@@ -109,7 +92,7 @@ fn push_free(out: &mut String, free: &BitMask) -> Result<(), AllocError>
 
 #[tactic(auto, unfolding(crate::specs::Lines::entries_text))]
 fn push_entries(out: &mut String, free: &BitMask) -> Result<(), AllocError>
-    ensures { OnOk result (string_bytes out.new ≡ string_bytes out.old ++ entries_text free.now) }
+    ensures { OnOk result (Adds out.old out.new (entries_text free.now)) }
 {
     let mut from = 0;
     'entries: while let Some((offset, mask)) = free.next_entry(from) {
@@ -120,14 +103,14 @@ fn push_entries(out: &mut String, free: &BitMask) -> Result<(), AllocError>
 }
 
 fn push_entry(out: &mut String, offset: u64, mask: u8) -> Result<(), AllocError>
-    ensures { OnOk result (string_bytes out.new ≡ string_bytes out.old ++ entry_text (offset, mask)) }
+    ensures { OnOk result (Adds out.old out.new (entry_text (offset, mask))) }
 {
     write!(out, " {offset}:{mask}")
 }
 
 #[tactic(auto, unfolding(crate::specs::Lines::forbidden_line))]
 fn push_forbidden(out: &mut String, forbidden: &ForbiddenValues) -> Result<(), AllocError>
-    ensures { OnOk result (string_bytes out.new ≡ string_bytes out.old ++ forbidden_line (items forbidden.now)) }
+    ensures { OnOk result (Adds out.old out.new (forbidden_line (items forbidden.now))) }
 {
     out.push_str("forbidden")?;
     push_items(out, forbidden)?;
@@ -136,7 +119,7 @@ fn push_forbidden(out: &mut String, forbidden: &ForbiddenValues) -> Result<(), A
 
 #[tactic(auto, unfolding(crate::specs::Lines::items_text, crate::specs::Lines::item_text))]
 fn push_items(out: &mut String, forbidden: &ForbiddenValues) -> Result<(), AllocError>
-    ensures { OnOk result (string_bytes out.new ≡ string_bytes out.old ++ items_text (items forbidden.now)) }
+    ensures { OnOk result (Adds out.old out.new (items_text (items forbidden.now))) }
 {
     match forbidden {
         ForbiddenValues::End => Ok(()),
@@ -156,7 +139,7 @@ fn push_items(out: &mut String, forbidden: &ForbiddenValues) -> Result<(), Alloc
 
 #[tactic(auto, unfolding(crate::specs::Lines::pairs_text))]
 fn push_pairs(out: &mut String, pairs: &[(u64, u8)]) -> Result<(), AllocError>
-    ensures { OnOk result (string_bytes out.new ≡ string_bytes out.old ++ pairs_text pairs.now) }
+    ensures { OnOk result (Adds out.old out.new (pairs_text pairs.now)) }
 {
     match pairs.split_first() {
         Some(((offset, byte), more)) => {
@@ -169,7 +152,7 @@ fn push_pairs(out: &mut String, pairs: &[(u64, u8)]) -> Result<(), AllocError>
 
 #[tactic(auto, unfolding(crate::specs::Lines::more_pairs_text))]
 fn push_more_pairs(out: &mut String, pairs: &[(u64, u8)]) -> Result<(), AllocError>
-    ensures { OnOk result (string_bytes out.new ≡ string_bytes out.old ++ more_pairs_text pairs.now) }
+    ensures { OnOk result (Adds out.old out.new (more_pairs_text pairs.now)) }
 {
     for (offset, byte) in pairs {
         write!(out, ",{offset}={byte}")?;
@@ -179,7 +162,7 @@ fn push_more_pairs(out: &mut String, pairs: &[(u64, u8)]) -> Result<(), AllocErr
 
 #[tactic(auto, unfolding(crate::specs::Lines::sum_lines))]
 fn push_sums(out: &mut String, sums: &[Placed]) -> Result<(), AllocError>
-    ensures { OnOk result (string_bytes out.new ≡ string_bytes out.old ++ sum_lines sums.now) }
+    ensures { OnOk result (Adds out.old out.new (sum_lines sums.now)) }
 {
     for sum in sums {
         push_sum(out, sum)?;
@@ -189,7 +172,7 @@ fn push_sums(out: &mut String, sums: &[Placed]) -> Result<(), AllocError>
 
 #[tactic(auto, unfolding(crate::specs::Lines::sum_line))]
 fn push_sum(out: &mut String, sum: &Placed) -> Result<(), AllocError>
-    ensures { OnOk result (string_bytes out.new ≡ string_bytes out.old ++ sum_line sum.now) }
+    ensures { OnOk result (Adds out.old out.new (sum_line sum.now)) }
 {
     push_places(out, sum)?;
     push_niche(out, sum.kind, &sum.determinant.test)?;
@@ -198,7 +181,7 @@ fn push_sum(out: &mut String, sum: &Placed) -> Result<(), AllocError>
 
 #[tactic(auto, unfolding(crate::specs::Lines::places_text))]
 fn push_places(out: &mut String, sum: &Placed) -> Result<(), AllocError>
-    ensures { OnOk result (string_bytes out.new ≡ string_bytes out.old ++ places_text sum.now) }
+    ensures { OnOk result (Adds out.old out.new (places_text sum.now)) }
 {
     write!(
         out,
@@ -210,7 +193,7 @@ fn push_places(out: &mut String, sum: &Placed) -> Result<(), AllocError>
 
 #[tactic(auto, unfolding(crate::specs::Lines::niche_text))]
 fn push_niche(out: &mut String, kind: Kind, test: &Test) -> Result<(), AllocError>
-    ensures { OnOk result (string_bytes out.new ≡ string_bytes out.old ++ niche_text kind test.now) }
+    ensures { OnOk result (Adds out.old out.new (niche_text kind test.now)) }
 {
     match test {
         Test::BitDeterminant => out.push_str("tag"),
@@ -223,7 +206,7 @@ fn push_niche(out: &mut String, kind: Kind, test: &Test) -> Result<(), AllocErro
 }
 
 fn push_side(out: &mut String, kind: Kind) -> Result<(), AllocError>
-    ensures { OnOk result (string_bytes out.new ≡ string_bytes out.old ++ side_text kind) }
+    ensures { OnOk result (Adds out.old out.new (side_text kind)) }
 {
     match kind {
         Kind::SmallerPattern => out.push_str("smaller "),
@@ -233,7 +216,7 @@ fn push_side(out: &mut String, kind: Kind) -> Result<(), AllocError>
 
 #[tactic(auto, unfolding(crate::specs::Lines::meaning_text))]
 fn push_meaning(out: &mut String, means_ok: bool) -> Result<(), AllocError>
-    ensures { OnOk result (string_bytes out.new ≡ string_bytes out.old ++ meaning_text means_ok) }
+    ensures { OnOk result (Adds out.old out.new (meaning_text means_ok)) }
 {
     out.push_str(if means_ok {
         " means ok\n"
@@ -244,7 +227,7 @@ fn push_meaning(out: &mut String, means_ok: bool) -> Result<(), AllocError>
 
 #[tactic(auto, unfolding(crate::specs::Lines::bytes_line))]
 fn push_bytes(alloc: Global, out: &mut String, bytes: &[u8]) -> Result<(), AllocError>
-    ensures { OnOk result (string_bytes out.new ≡ string_bytes out.old ++ bytes_line bytes.now) }
+    ensures { OnOk result (Adds out.old out.new (bytes_line bytes.now)) }
 {
     out.push_str("bytes")?;
     if !bytes.is_empty() {

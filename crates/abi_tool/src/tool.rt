@@ -1,14 +1,13 @@
 ghost use Rattle.std.specs.Prelude.{◌≡◌, ◌≢◌, ◌↔◌, ◌⊎◌, [], ◌∷◌, Some, None, IfSome, codes};
 ghost use Rattle.abi_tool.specs.Headline.{Packs};
 ghost use Rattle.std.specs.Io.KnownBytes.{Keeps};
-ghost use Rattle.abi_tool.specs.Answers.{command_of, reply_to, status_of, Answers, StatusMeans, rest_after, IsSilent};
+ghost use Rattle.abi_tool.specs.Answers.{invocation_of, reply_to, status_of, Answers, StatusMeans, rest_after, IsSilent};
 ghost use Rattle.abi_tool.specs.Causes.{Rose};
 
-use crate::command::command_of;
+use crate::command::{Invocation, invocation_of};
 use crate::run_document::run_document;
 use crate::sink::Sink;
 use crate::source::Source;
-use abi_document::Command;
 use abi_num::Text;
 use std::alloc::Global;
 
@@ -16,7 +15,7 @@ use std::alloc::Global;
 /// 3 the sink failed, 4 the document is too long, 5 it is no JSON, 6 it is no document of the command, 7 the job has a
 /// fault, 8 memory was refused.
 pub fn tool<S: Source, K: Sink>(alloc: Global, words: &[Text], source: &mut S, sink: &mut K) -> u8
-    ensures unlisted { (result ≡ 1) ↔ (command_of words.now ≡ None) }
+    ensures unlisted { (result ≡ 1) ↔ (invocation_of words.now ≡ None) }
     ensures read_fault { result ≡ 2 → Rose (S.faults source.old) (S.faults source.new) }
     ensures write_fault { result ≡ 3 → Rose (K.faults sink.old) (K.faults sink.new) }
     ensures silent { IsSilent result → Keeps (K.got sink.old) (K.got sink.new) }
@@ -24,9 +23,10 @@ pub fn tool<S: Source, K: Sink>(alloc: Global, words: &[Text], source: &mut S, s
     // Where the source tells its bytes:
     ensures replies { IfSome (S.left source.old) (λ bytes.
         Answers (reply_to words.now bytes) (K.got sink.old) (K.got sink.new) result) }
-    ensures means { IfSome (S.left source.old) (λ bytes. StatusMeans (command_of words.now) result bytes) }
+    ensures means { IfSome (S.left source.old) (λ bytes.
+        StatusMeans (invocation_of words.now) result bytes) }
     ensures rest { IfSome (S.left source.old) (λ bytes.
-        result ≢ 2 → result ≢ 8 → S.left source.new ≡ Some (rest_after (command_of words.now) result bytes)) }
+        result ≢ 2 → result ≢ 8 → S.left source.new ≡ Some (rest_after (invocation_of words.now) result bytes)) }
 
     // Status 0 of `pack`: the document was a job without a fault, and an image that shows its value and no other was written.
     ensures packs { words.now ≡ codes "pack" ∷ [] → IfSome (S.left source.old) (λ bytes.
@@ -37,8 +37,8 @@ pub fn tool<S: Source, K: Sink>(alloc: Global, words: &[Text], source: &mut S, s
         ¬ Rose (S.faults source.old) (S.faults source.new) → ¬ Rose (K.faults sink.old) (K.faults sink.new)
         → (result ≡ status_of (reply_to words.now bytes)) ⊎ (result ≡ 8)) }
 {
-    match command_of(words) {
+    match invocation_of(words) {
         None => 1,
-        Some(Command::Pack) => run_document(alloc, Command::Pack, source, sink),
+        Some(Invocation::Document(command)) => run_document(alloc, command, source, sink),
     }
 }

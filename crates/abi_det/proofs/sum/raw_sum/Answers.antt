@@ -4,7 +4,7 @@ use Rattle.abi_det.proofs.sum.raw_sum.Goals as goal
 
 pub returns-clause-same : goal.returns-clause-same
 returns-clause-same c =
-    sum_made c.args.ok.now c.args.err.now c.args.p.now _ c.requires.placed (search rules) c.sum_align.ensures.same refl (search rules) refl (search rules)
+    sum_made c.args.ok.now c.args.err.now c.args.p.now _ (search rules) c.sum_align.ensures.same refl (search rules) refl (search rules)
 
 pub returns-clause-lawful : goal.returns-clause-lawful
 returns-clause-lawful c =

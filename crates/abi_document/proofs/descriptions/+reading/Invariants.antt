@@ -1,28 +1,34 @@
-use Rattle.std.proofs.Common.{◌≡◌, ◌+◌, ◌*◌, drop}
+use Rattle.std.proofs.Common.{◌≡◌, ◌+◌, ◌*◌, drop, map}
 use Rattle.serde_json.specs.View.{items_view}
-use Rattle.abi_document.specs.Descriptions.{fields_of, desc_at}
-use Rattle.abi_document.proofs.Fields.{in_front}
+use Rattle.abi_document.specs.Descriptions.{named, fields_of, desc_at}
+use Rattle.abi_document.proofs.Arrays.{in_front}
 use Rattle.abi_document.proofs.descriptions.+reading.Given as goal
 
 abbrev pub decreases-desc_at : goal.decreases-desc_at
-decreases-desc_at l = 5 * l.levels
+decreases-desc_at l = 6 * l.levels
 
 abbrev pub decreases-desc_step : goal.decreases-desc_step
-decreases-desc_step l = 5 * l.levels + 4
+decreases-desc_step l = 6 * l.levels + 5
+
+abbrev pub decreases-form_of : goal.decreases-form_of
+decreases-form_of l = 6 * l.levels + 4
 
 abbrev pub decreases-struct_of : goal.decreases-struct_of
-decreases-struct_of l = 5 * l.levels + 3
-
-abbrev pub decreases-result_of : goal.decreases-result_of
-decreases-result_of l = 5 * l.levels + 3
+decreases-struct_of l = 6 * l.levels + 3
 
 abbrev pub decreases-fields_of : goal.decreases-fields_of
-decreases-fields_of l = 5 * l.levels + 2
+decreases-fields_of l = 6 * l.levels + 2
+
+abbrev pub decreases-pair_at : goal.decreases-pair_at
+decreases-pair_at l = 6 * l.levels + 2
 
 abbrev pub decreases-field_of : goal.decreases-field_of
-decreases-field_of l = 5 * l.levels + 1
+decreases-field_of l = 6 * l.levels + 1
 
--- the fields so far before those of the items that are left
+abbrev pub decreases-boxed_at : goal.decreases-boxed_at
+decreases-boxed_at l = 6 * l.levels + 1
+
+-- the fields so far in front of those of the items that are left
 abbrev pub invariant-fields_of-loop-item : goal.invariant-fields_of-loop-item
 invariant-fields_of-loop-item l =
-    in_front l.fields (fields_of (desc_at l.levels) (items_view (drop l.item-index l.items))) ≡ fields_of (desc_at l.levels) (items_view l.items)
+    in_front (map named l.fields) (fields_of (desc_at l.levels) (items_view (drop l.item-index l.items))) ≡ fields_of (desc_at l.levels) (items_view l.items)

@@ -1,6 +1,6 @@
 use Rattle.std.proofs.Common.{◌≡◌, ◌∙◌, length, ap, arith}
 use Rattle.std.proofs.lemmas.Bool.{ltb-true, ltb-false}
-use Rattle.abi_document.proofs.Pairs.{no_pair}
+use Rattle.abi_document.proofs.Arrays.{no_pair}
 use Rattle.abi_document.proofs.forms.pair_of.Goals as goal
 use Rattle.abi_document.proofs.forms.pair_of.Goals.{in_default-via-then-as_slice-lt2, in_default-via-else-as_slice-lt2+else-this-lt3}
 

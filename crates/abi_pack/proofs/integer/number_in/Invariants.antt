@@ -1,5 +1,5 @@
 use Rattle.std.proofs.Common.{◌≡◌, ◌-◌, ◌^◌, ◌<◌, drop, length}
-use Rattle.abi_pack.specs.Form.{low_worth, ordered}
+use Rattle.abi_pack.specs.Scalars.{low_worth, ordered}
 use Rattle.abi_pack.proofs.integer.number_in.Given as goal
 
 abbrev pub invariant-loop-rank : goal.invariant-loop-rank

@@ -1,5 +1,5 @@
 use Rattle.std.proofs.Common.{◌≡◌, ◌-◌, ◌++◌, take, length}
-use Rattle.abi_pack.specs.Form.{low_bytes}
+use Rattle.abi_pack.specs.Scalars.{low_bytes}
 use Rattle.abi_pack.proofs.integer.write_low_first.Given as goal
 
 abbrev pub invariant-loop-byte : goal.invariant-loop-byte

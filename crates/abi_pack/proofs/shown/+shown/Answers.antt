@@ -1,39 +1,32 @@
-use Rattle.std.proofs.Common.{◌<◌, true, false, length, slice_index, arith}
-use Rattle.abi_pack.specs.View.{shape}
-use Rattle.abi_pack.proofs.Nodes.{nodes, nodes_of, nodes_fewer}
-use Rattle.abi_pack.proofs.Offsets.{covered_rest, state_rest, shown_sum}
-use Rattle.abi_pack.proofs.Steps.{struct_is, struct_sound, struct_within}
+use Rattle.std.proofs.Common.{◌≡◌, ◌+◌, ◌∷◌, ◌∙◌, true, false, slice_index, refl, sym, ap, rules}
+use Rattle.abi_pack.specs.Image.{from}
+use Rattle.abi_pack.specs.Told.{is_shown_in}
+use Rattle.abi_pack.specs.View.{shapes}
+use Rattle.abi_pack.proofs.Offsets.{covered_rest, state_rest, shown_sum, shown_fields}
 use Rattle.abi_pack.proofs.shown.+shown.Goals as goal
 
-pub is_shown-are_shown-requires : goal.is_shown-are_shown-requires
-is_shown-are_shown-requires t c =
-    let fewer : nodes_of c.as_slice.result.now < nodes (shape c.args.part.now) =
-    nodes_fewer c.args.part.now c.as_slice.result.now c.in-Struct.fields c.in-Struct.free c.in-Struct.tail c.in-Struct.is c.as_slice.ensures in (
-      omega (arith, c.decreases),
-      (
-        struct_sound c.args.part.now c.as_slice.result.now c.in-Struct.fields c.in-Struct.free c.in-Struct.tail c.in-Struct.is c.as_slice.ensures c.requires.sound,
-        (
-          c.requires.small,
-          struct_within c.args.part.now c.as_slice.result.now c.in-Struct.fields c.in-Struct.free c.in-Struct.tail c.args.at (length c.args.bytes.now) c.in-Struct.is c.as_slice.ensures c.requires.within,
-        ),
-      ),
-    )
+pub is_shown-is_det_ok-first-requires : goal.is_shown-is_det_ok-first-requires
+is_shown-is_det_ok-first-requires t c =
+    covered_rest c.args.part.now c.in-Sum.names c.in-Sum.ok c.in-Sum.err c.in-Sum.spot c.args.at c.args.bytes.now c.in-Sum.is c.requires.sound c.requires.within
 
-pub is_shown-is_det_ok-requires : goal.is_shown-is_det_ok-requires
-is_shown-is_det_ok-requires t c =
-    covered_rest c.args.part.now c.in-Sum.sort c.in-Sum.ok c.in-Sum.err c.in-Sum.spot c.args.at c.args.bytes.now c.in-Sum.is c.requires.sound c.requires.within
+pub is_shown-returns-in-Sum : goal.is_shown-returns-in-Sum
+is_shown-returns-in-Sum t c =
+    shown_sum c.args.part.now c.side-variant.result.now c.in-Sum.names c.in-Sum.ok c.in-Sum.err c.in-Sum.spot c.is_det_ok-first.result (slice_index c.args.bytes.now) c.args.at
+    (c.args.at + c.start.result) c.is_shown.result c.in-Sum.is (rw (← c.deref-in-Sum.ensures, ← c.deref-in-Sum-2.ensures) c.side-variant.ensures)
+    (state_rest c.in-Sum.spot.determinant c.args.bytes.now c.args.at c.is_det_ok-first.result c.is_det_ok-first.ensures) (ap (λ n. c.args.at + n) c.start.ensures) c.is_shown.ensures
 
-pub is_shown-returns-in-Struct : goal.is_shown-returns-in-Struct
-is_shown-returns-in-Struct t c =
-    rw (struct_is c.args.part.now c.as_slice.result.now c.in-Struct.fields c.in-Struct.free c.in-Struct.tail c.in-Struct.is c.as_slice.ensures)
-    (c.are_shown.ensures c.in-Struct.free c.in-Struct.tail)
+pub are_shown-returns-then-first : goal.are_shown-returns-then-first
+are_shown-returns-then-first t c =
+    let cons : c.args.fields.now ≡ c.in-Some.field.now ∷ c.in-Some.fields.now = search rules in
+    shown_fields c.args.fields.now c.in-Some.fields.now c.in-Some.field.now (slice_index c.args.bytes.now) c.args.at (c.args.at + c.in-Some.field.now.gap)
+    (c.args.at + c.in-Some.field.now.gap + c.size.result) true c.are_shown.result cons refl (ap (λ n. c.args.at + c.in-Some.field.now.gap + n) c.size.ensures)
+    (sym c.if-first.true ∙ c.is_shown-first.ensures) c.are_shown.ensures
 
-pub is_shown-returns-then-is_det_ok : goal.is_shown-returns-then-is_det_ok
-is_shown-returns-then-is_det_ok t c =
-    shown_sum c.args.part.now c.in-Sum.sort c.in-Sum.ok c.in-Sum.err c.in-Sum.spot true (slice_index c.args.bytes.now) c.args.at c.is_shown.result c.in-Sum.is
-    (state_rest c.in-Sum.spot.determinant c.args.bytes.now c.args.at true c.if-is_det_ok.ensures) (rw c.deref.ensures at c.is_shown.ensures)
-
-pub is_shown-returns-else-is_det_ok : goal.is_shown-returns-else-is_det_ok
-is_shown-returns-else-is_det_ok t c =
-    shown_sum c.args.part.now c.in-Sum.sort c.in-Sum.ok c.in-Sum.err c.in-Sum.spot false (slice_index c.args.bytes.now) c.args.at c.is_shown-else-is_det_ok.result c.in-Sum.is
-    (state_rest c.in-Sum.spot.determinant c.args.bytes.now c.args.at false c.if-is_det_ok.ensures) (rw c.deref-else-is_det_ok.ensures at c.is_shown-else-is_det_ok.ensures)
+pub are_shown-returns-else-first : goal.are_shown-returns-else-first
+are_shown-returns-else-first t c =
+    let cons : c.args.fields.now ≡ c.in-Some.field.now ∷ c.in-Some.fields.now = search rules in
+    let end = c.args.at + c.in-Some.field.now.gap + c.size.result in
+    c.if-first.false
+    ∙ shown_fields c.args.fields.now c.in-Some.fields.now c.in-Some.field.now (slice_index c.args.bytes.now) c.args.at (c.args.at + c.in-Some.field.now.gap)
+    end false (is_shown_in (shapes c.in-Some.fields.now) (from end (slice_index c.args.bytes.now))) cons refl (ap (λ n. c.args.at + c.in-Some.field.now.gap + n) c.size.ensures)
+    (sym c.if-first.false ∙ c.is_shown-first.ensures) refl

@@ -1,5 +1,11 @@
+use Rattle.std.proofs.Common.{rules, IfSome}
+use Rattle.abi_tool.specs.Answers.{reply_to, Answers}
 use Rattle.abi_tool.proofs.Packs.{packs_told}
 use Rattle.abi_tool.proofs.tool.tool.Goals as goal
 
-pub returns-in-Some-Pack-clause-packs : goal.returns-in-Some-Pack-clause-packs
-returns-in-Some-Pack-clause-packs g c = λ words. packs_told (g.S.Source.left c.args.source.now) (g.K.Sink.got c.args.sink.now) (g.K.Sink.got c.run_document.new.sink) c.run_document.result c.run_document.ensures.replies
+pub returns-in-Some-Document-clause-packs : goal.returns-in-Some-Document-clause-packs
+returns-in-Some-Document-clause-packs g c =
+    let got = g.K.Sink.got c.args.sink.now in
+    let went = g.K.Sink.got c.run_document.new.sink in
+    let told : IfSome (g.S.Source.left c.args.source.now) (λ bytes. Answers (reply_to c.args.words.now bytes) got went c.run_document.result) = search rules in
+    packs_told c.args.words.now (g.S.Source.left c.args.source.now) got went c.run_document.result told

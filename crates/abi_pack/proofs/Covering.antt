@@ -1,0 +1,373 @@
+-- The plan of a description without a fault is sound, and covers the written frame: no value holds a free bit of the frame,
+-- and bytes that show a value match none of its items.
+use Rattle.std.specs.List.{list_any}
+use Rattle.std.specs.Int.{bit_at, next_multiple_of}
+use Rattle.std.proofs.Common.{◌≡◌, ℕ, ◌+◌, ◌-◌, ◌<◌, ◌≤◌, max, Bool, true, false, ◌||◌, List, [], ◌∷◌, ◌++◌, map, Option, None, cond, eqb, ltb, bit_or, refl, sym, ap, ◌∙◌, ◌⊎◌, inl, inr, arith}
+use Rattle.std.proofs.lemmas.Bool.{cases_lt, lt-ltb, le-ltb, eqb-true}
+use Rattle.std.proofs.lemmas.Nat.Bits.{bit_at_or, bit_at-zero, bit_at-lt}
+use Rattle.std.proofs.lemmas.List.Folds.{list_any-append}
+use Rattle.abi_num.specs.Target.{is_row}
+use Rattle.abi_num.specs.declared.target.Target.{Target}
+use Rattle.abi_bits.specs.Pairs.{Pair, is_matched, moved_pairs}
+use Rattle.abi_bits.specs.Mask.{mask_at, entries_below}
+use Rattle.abi_bits.specs.Forbidden.{Item, pattern, range, is_match, moved_item}
+use Rattle.abi_bits.proofs.Entries.{entries_at, zero_past}
+use Rattle.abi_bits.proofs.Masks.{zero_or, or_zero}
+use Rattle.abi_det.specs.Frame.{Frame}
+use Rattle.abi_det.specs.Offers.{or_else, Rules}
+use Rattle.abi_det.specs.Owed as owed
+use Rattle.abi_det.specs.Roles.{union_size}
+use Rattle.abi_det.specs.State.{is_tested}
+use Rattle.abi_det.specs.Written.{written_placement, written_sum}
+use Rattle.abi_det.specs.declared.placements.Placement.{Placement}
+use Rattle.abi_det.proofs.Owed.{owed as placement_owes}
+use Rattle.abi_det.proofs.Lawful.{parts as lawful_parts}
+use Rattle.abi_layout.specs.Builders.{start_after, whole_between, byte_from}
+use Rattle.abi_layout.specs.Faults.{size_fault, align_fault, part_fault, part_fault_in}
+use Rattle.abi_layout.specs.Frames.{written_frame, written_frames}
+use Rattle.abi_layout.specs.Plans.{planned, planned_in, spot_of}
+use Rattle.abi_layout.specs.Prims.{scalar_of, scalar_frame}
+use Rattle.abi_layout.specs.Shape.{Shape, scalar, sum, size, size_in}
+use Rattle.abi_layout.specs.Structs.{positions, end_of, fields_align, fields_byte, fields_items, struct_frame}
+use Rattle.abi_layout.specs.Trees as trees
+use Rattle.abi_layout.specs.Trees.{Tree, Branches, Label, sides, parts, parts_in, variant_parts}
+use Rattle.abi_layout.specs.declared.desc_error.DescError.{DescError}
+use Rattle.abi_layout.specs.declared.part.Sort.{Sort}
+use Rattle.abi_layout.specs.declared.prim.Primitive.{Primitive}
+use Rattle.abi_layout.proofs.Bytes.{whole_past, whole_before, byte_inside, byte_before}
+use Rattle.abi_layout.proofs.Faultless.{no_fault, struct_end}
+use Rattle.abi_layout.proofs.Sounding.{part_sound}
+use Rattle.abi_pack.specs.Image.{Image, has, from}
+use Rattle.abi_pack.specs.Plain.{Plain, Plains, unit, integer, boolean, order, bytes, list, variant, end, more}
+use Rattle.abi_pack.specs.Shows.{Shows, ShowIn, holds, holds_in, start_of}
+use Rattle.abi_pack.specs.Sound.{IsSound, AreSound, IsSide}
+use Rattle.abi_pack.specs.Variants.{truth_of, held_at}
+use Rattle.abi_pack.proofs.Choice.{in_gap, in_field, behind_field, three_places, neither, and_no}
+use Rattle.abi_pack.proofs.Stored.{scalar_allowed}
+use Rattle.abi_pack.proofs.TreeValues.{same_size, moved}
+
+pub record Covers (f : Frame) (s : Shape) : Type 0 where
+  pub free : (v : Plain) (i k : ℕ) → k < 8 → has f.free i k ≡ true → holds s v i k ≡ false
+  pub items : (v : Plain) (g : Image) → Shows s v g → list_any (is_match g) f.forbids ≡ false
+
+-- ---- bits of bytes
+
+max_bit : (x y : ℕ) → x < 2 → y < 2 → eqb (max x y) 1 ≡ (eqb x 1 || eqb y 1)
+max_bit x y a b = elim (cases_lt x 1) [
+  | inl low ↦ let e : x ≡ 0 = omega arith in rw e (max_zero y)
+  | inr high ↦ let e : x ≡ 1 = omega arith in let m : max x y ≡ 1 = omega (arith, e, b) in rw (m, e) refl
+] where
+  max_zero : (n : ℕ) → eqb (max 0 n) 1 ≡ eqb n 1
+  max_zero n = let e : max 0 n ≡ n = omega arith in rw e refl
+
+or_bit : (a b k : ℕ) → eqb (bit_at (bit_or a b) k) 1 ≡ (eqb (bit_at a k) 1 || eqb (bit_at b k) 1)
+or_bit a b k = rw (bit_at_or a b k) (max_bit (bit_at a k) (bit_at b k) (bit_at-lt a k) (bit_at-lt b k))
+
+no_bit : (k : ℕ) → eqb (bit_at 0 k) 1 ≡ true → ⊥
+no_bit k h = let none : eqb (bit_at 0 k) 1 ≡ false = rw (bit_at-zero k) refl in absurd (cc)
+
+-- ---- a primitive
+
+prim_covers : (target : Target) (p : Primitive) → Covers (scalar_frame target (scalar_of target p)) (scalar (scalar_of target p))
+unfolding scalar_frame
+prim_covers target p = record {
+  free = λ v i k small h. absurd (no_bit k h);
+  items = λ v g shown. scalar_allowed (scalar_of target p) v g shown;
+}
+
+-- ---- a packed sum
+
+-- what is free where a part stands at `shift` is held by none of its values there
+free_not_held : (f : Frame) (s : Shape) (v : Plain) (shift : ℕ) → size s ≡ f.size → Covers f s → (i k : ℕ) → k < 8 → owed.is_free_at f shift i k ≡ true
+    → held_at shift (size s) (λ j l. holds s v j l) i k ≡ false
+free_not_held f s v shift len c i k small free =
+    three_places i shift (size s)
+    (λ h. in_gap i shift (size s) false (holds s v (i - shift) k) false h)
+    (λ g l. in_field i shift (size s) false (holds s v (i - shift) k) false g l
+    ∙ c.free v (i - shift) k small (sym (in_field i shift f.size true (has f.free (i - shift) k) true g (omega (arith, len))) ∙ free))
+    (λ a. behind_field i shift (size s) false (holds s v (i - shift) k) false a)
+
+-- what a placement owes to each variant
+owed_side : (f g : Frame) (p : Placement) → owed.IsOwed f g p → (first : Bool)
+    → owed.IsSide p.determinant.test p.exported (union_size f g + p.front) (sides f g first) (cond first (p.front + p.ok_shift) (p.front + p.err_shift)) (truth_of p.determinant first)
+owed_side f g p o true = o.ok_side
+owed_side f g p o false = o.err_side
+
+start_is : (rules : Rules) (f g : Frame) (first : Bool)
+    → cond first ((written_placement rules f g).front + (written_placement rules f g).ok_shift) ((written_placement rules f g).front + (written_placement rules f g).err_shift)
+    ≡ start_of (spot_of rules f g) first
+start_is rules f g true = refl
+start_is rules f g false = refl
+
+-- the frames of the variants, and their shapes
+pub record AreVariants (f g : Frame) (a b : Shape) : Type 0 where
+  pub size_ : (first : Bool) → size (sides a b first) ≡ (sides f g first).size
+  pub cover : (first : Bool) → Covers (sides f g first) (sides a b first)
+
+spot_side : (rules : Rules) (f g : Frame) (a b : Shape) → AreVariants f g a b → owed.IsOwed f g (written_placement rules f g) → (first : Bool)
+    → IsSide (sides a b first) first (spot_of rules f g)
+spot_side rules f g a b are o first =
+    let p : Placement = written_placement rules f g in
+    let side = owed_side f g p o first in
+    let e = start_is rules f g first in
+    let len = are.size_ first in
+    let c : Covers (sides f g first) (sides a b first) = are.cover first in
+    record {
+      inside = rw (← e, len) side.inside;
+      carried = λ carried v i k small own. free_not_held (sides f g first) (sides a b first) v (start_of (spot_of rules f g) first) len c i k small
+          (rw (← e) (side.carried carried i k small own));
+      forbids = λ lacks v h holds_ shown.
+          let some : list_any (is_match (from (start_of (spot_of rules f g) first) h)) (sides f g first).forbids ≡ true = rw (← e) (side.forbids lacks h holds_) in
+          let none : list_any (is_match (from (start_of (spot_of rules f g) first) h)) (sides f g first).forbids ≡ false =
+          c.items v (from (start_of (spot_of rules f g) first) h) shown in absurd (cc);
+    }
+
+sum_free : (rules : Rules) (names : Sort) (f g : Frame) (a b : Shape) → AreVariants f g a b → owed.IsOwed f g (written_placement rules f g)
+    → (v : Plain) (i k : ℕ) → k < 8 → has (written_placement rules f g).exported i k ≡ true → holds (sum names (sides a b) (spot_of rules f g)) v i k ≡ false
+sum_free rules names f g a b are o (variant kind first v) i k small free =
+    let p : Placement = written_placement rules f g in
+    let side = owed_side f g p o first in
+    let bit : bit_at (mask_at p.exported i) k ≡ 1 = eqb-true (bit_at (mask_at p.exported i) k) 1 free in
+    neither (held_at (start_of (spot_of rules f g) first) (size (sides a b first)) (λ j l. holds (sides a b first) v j l) i k) _
+    (free_not_held (sides f g first) (sides a b first) v (start_of (spot_of rules f g) first) (are.size_ first) (are.cover first) i k small
+    (rw (← start_is rules f g first) (side.exports i k small bit)))
+    (and_no _ (is_tested p.determinant.test i k) (o.kept i k small bit))
+sum_free rules names f g a b are o unit i k small free = refl
+sum_free rules names f g a b are o (integer m n) i k small free = refl
+sum_free rules names f g a b are o (boolean x) i k small free = refl
+sum_free rules names f g a b are o (order x) i k small free = refl
+sum_free rules names f g a b are o (bytes x) i k small free = refl
+sum_free rules names f g a b are o (list vs) i k small free = refl
+
+sum_covers : (rules : Rules) (names : Sort) (f g : Frame) (a b : Shape) → AreVariants f g a b → owed.IsOwed f g (written_placement rules f g)
+    → Covers (written_sum rules f g) (sum names (sides a b) (spot_of rules f g))
+unfolding written_sum
+sum_covers rules names f g a b are o = record {
+  free = λ v i k small free. sum_free rules names f g a b are o v i k small free;
+  items = λ v h shown. refl;
+}
+
+-- ---- a struct
+
+-- each field's shape covers its frame, whose free bits lie within it, and is sound
+abbrev pub AllCover : Rules → Target → Branches → Type 0
+AllCover rules target trees.none = Unit {0}
+AllCover rules target (trees.field name t fs) =
+    Covers (written_frame rules target t) (planned rules target t)
+    × IsSound (planned rules target t)
+    × ((at : ℕ) → (written_frame rules target t).size ≤ at → mask_at (written_frame rules target t).free at ≡ 0)
+    × AllCover rules target fs
+
+after_end : (before : ℕ) (f : Frame) → before ≤ start_after before f
+after_end before f = omega arith
+
+end_grows : (before : ℕ) (fs : List Frame) → before ≤ end_of before fs
+end_grows before [] = omega arith
+end_grows before (f ∷ fs) = omega (arith, after_end before f, end_grows (start_after before f + f.size) fs)
+
+-- no field has a bit before the first
+fields_before : (before : ℕ) (fs : List Frame) (at : ℕ) → at < before → fields_byte (positions before fs) at ≡ 0
+fields_before before [] at h = refl
+fields_before before (f ∷ fs) at h =
+    let start = start_after before f in
+    let le = after_end before f in
+    let a : whole_between before start at ≡ 0 = whole_before before start at h in
+    let b : byte_from start f at ≡ 0 = byte_before start f at (omega (arith, le)) in
+    let c : fields_byte (positions (start + f.size) fs) at ≡ 0 = fields_before (start + f.size) fs at (omega (arith, le)) in
+    rw (a, b, c) refl
+
+-- where bit k of the byte at is free by the fields after `before` bytes, or in the tail up to `to`
+abbrev IsFieldBit : ℕ → List Frame → ℕ → ℕ → ℕ → Type 0
+IsFieldBit before fs to at k = eqb (bit_at (bit_or (fields_byte (positions before fs) at) (whole_between (end_of before fs) to at)) k) 1 ≡ true
+
+fields_free : (rules : Rules) (target : Target) (before to : ℕ) (fs : Branches) (vs : Plains) (at i k : ℕ) → AllCover rules target fs → k < 8 → at ≡ before + i
+    → IsFieldBit before (written_frames rules target fs) to at k → holds_in (planned_in rules target before fs) vs i k ≡ false
+fields_free rules target before to trees.none vs at i k all small e h = refl
+fields_free rules target before to (trees.field name t fs) end at i k all small e h = refl
+fields_free rules target before to (trees.field name t fs) (more v vs) at i k all small e h =
+    let f = written_frame rules target t in
+    let start = start_after before f in
+    let gap : ℕ = start - before in
+    let s : Shape = planned rules target t in
+    let le = after_end before f in
+    let len : size s ≡ f.size = same_size rules target t in
+    let fs' : List Frame = written_frames rules target fs in
+    let last_end : ℕ = end_of (start + f.size) fs' in
+    let grown : start + f.size ≤ last_end = end_grows (start + f.size) fs' in
+    let own : Bool = holds s v (i - gap) k in
+    let rest : Bool = holds_in (planned_in rules target (start + f.size) fs) vs (i - (gap + size s)) k in
+    three_places i gap (size s)
+    (λ early. in_gap i gap (size s) false own rest early)
+    (λ past inside.
+    let w : whole_between before start at ≡ 0 = whole_past before start at (omega (arith, le)) in
+    let b : byte_from start f at ≡ mask_at f.free (at - start) = byte_inside start f at (omega (arith, le)) in
+    let r : fields_byte (positions (start + f.size) fs') at ≡ 0 = fields_before (start + f.size) fs' at (omega (arith, le, len)) in
+    let x : whole_between last_end to at ≡ 0 = whole_before last_end to at (omega (arith, le, len, grown)) in
+    let o : at - start ≡ i - gap = omega (arith, le) in
+    let bit : has f.free (i - gap) k ≡ true =
+    rw (w, b, r, x, o, zero_or (mask_at f.free (i - gap)), or_zero (mask_at f.free (i - gap)), or_zero (mask_at f.free (i - gap))) at h in
+    in_field i gap (size s) false own rest past inside ∙ all.0.free v (i - gap) k small bit)
+    (λ behind.
+    let w : whole_between before start at ≡ 0 = whole_past before start at (omega (arith, le)) in
+    let b : byte_from start f at ≡ mask_at f.free (at - start) = byte_inside start f at (omega (arith, le)) in
+    let m : mask_at f.free (at - start) ≡ 0 = all.2 (at - start) (omega (arith, le, len)) in
+    let r : ℕ = fields_byte (positions (start + f.size) fs') at in
+    let later : IsFieldBit (start + f.size) fs' to at k = rw (w, b, m, zero_or 0, zero_or r) at h in
+    behind_field i gap (size s) false own rest behind
+    ∙ fields_free rules target (start + f.size) to fs vs at (i - (gap + size s)) k all.3 small (omega (arith, le, len)) later)
+
+-- ---- items that stand further on
+
+moved_matched : (by : ℕ) (ps : List Pair) (f : Image) → is_matched (moved_pairs by ps) f ≡ is_matched ps (from by f)
+moved_matched by [] f = refl
+moved_matched by (p ∷ ps) f =
+    let here : f (p.0 + by) ≡ f (by + p.0) = ap f (omega arith) in
+    let rest : is_matched (moved_pairs by ps) f ≡ is_matched ps (from by f) = moved_matched by ps f in rw (here, rest) refl
+
+moved_match : (by : ℕ) (it : Item) (f : Image) → is_match f (moved_item by it) ≡ is_match (from by f) it
+moved_match by (pattern ps) f = moved_matched by ps f
+moved_match by (range at least greatest) f = let here : f (at + by) ≡ f (by + at) = ap f (omega arith) in rw here refl
+
+moved_any : (by : ℕ) (its : List Item) (f : Image) → list_any (is_match f) (map (moved_item by) its) ≡ list_any (is_match (from by f)) its
+moved_any by [] f = refl
+moved_any by (it ∷ its) f = rw (moved_match by it f, moved_any by its f) refl
+
+joined_none : (f : Image) (xs ys : List Item) → list_any (is_match f) xs ≡ false → list_any (is_match f) ys ≡ false → list_any (is_match f) (xs ++ ys) ≡ false
+joined_none f xs ys a b = list_any-append (is_match f) xs ys ∙ rw (a, b) refl
+
+-- f tells the struct's bytes, g those after `before` of them
+fields_allowed : (rules : Rules) (target : Target) (before : ℕ) (fs : Branches) (vs : Plains) (f g : Image) → AllCover rules target fs → ((i : ℕ) → g i ≡ f (before + i))
+    → ShowIn (planned_in rules target before fs) vs g → list_any (is_match f) (fields_items (positions before (written_frames rules target fs))) ≡ false
+fields_allowed rules target before trees.none vs f g all e shown = refl
+fields_allowed rules target before (trees.field name t fs) (more v vs) f g all e shown =
+    let w = written_frame rules target t in
+    let start = start_after before w in
+    let gap : ℕ = start - before in
+    let s : Shape = planned rules target t in
+    let le = after_end before w in
+    let len : size s ≡ w.size = same_size rules target t in
+    let here : from start f ≡ from gap g = moved before start gap f g e (omega (arith, le)) in
+    joined_none f (map (moved_item start) w.forbids) (fields_items (positions (start + w.size) (written_frames rules target fs)))
+    (moved_any start w.forbids f ∙ rw here (all.0.items v (from gap g) shown.0))
+    (fields_allowed rules target (start + w.size) fs vs f (from (gap + size s) g) all.3
+    (λ i. e (gap + size s + i) ∙ ap f (omega (arith, le, len))) shown.1)
+fields_allowed rules target before (trees.field name t fs) end f g all e shown = absurd shown
+
+-- ---- the struct itself
+
+fields_size : (rules : Rules) (target : Target) (before : ℕ) (fs : Branches) → before + size_in (planned_in rules target before fs) ≡ end_of before (written_frames rules target fs)
+fields_size rules target before trees.none = omega arith
+fields_size rules target before (trees.field name t fs) =
+    let f = written_frame rules target t in
+    let start = start_after before f in
+    let le = after_end before f in
+    let here : size (planned rules target t) ≡ f.size = same_size rules target t in
+    let rest = fields_size rules target (start + f.size) fs in
+    omega (arith, le, here, rest)
+
+fields_sound : (rules : Rules) (target : Target) (before : ℕ) (fs : Branches) → AllCover rules target fs → AreSound (planned_in rules target before fs)
+fields_sound rules target before trees.none all = tt
+fields_sound rules target before (trees.field name t fs) all =
+    (all.1, fields_sound rules target (start_after before (written_frame rules target t) + (written_frame rules target t).size) fs all.3)
+
+within : (bits : ℕ → ℕ) (n i k : ℕ) → has (entries_below bits n) i k ≡ true → (i < n) ⊎ (n ≤ i) → eqb (bit_at (bits i) k) 1 ≡ true
+within bits n i k h (inl lt) =
+    let inside : ltb i n ≡ true = lt-ltb i n lt in
+    let m : mask_at (entries_below bits n) i ≡ bits i = entries_at bits n i ∙ rw inside refl in rw m at h
+within bits n i k h (inr le) =
+    let past : ltb i n ≡ false = le-ltb i n le in
+    let m : mask_at (entries_below bits n) i ≡ 0 = entries_at bits n i ∙ rw past refl in absurd (no_bit k (rw m at h))
+
+struct_free : (rules : Rules) (target : Target) (label : Label) (fs : Branches) (align : Option ℕ) (v : Plain) (i k : ℕ) → AllCover rules target fs → k < 8
+    → has (struct_frame (written_frames rules target fs) align).free i k ≡ true → holds (planned rules target (trees.struct label fs align)) v i k ≡ false
+unfolding struct_frame
+struct_free rules target label fs align (list vs) i k all small h =
+    let frames : List Frame = written_frames rules target fs in
+    let last : ℕ = end_of 0 frames in
+    let to : ℕ = next_multiple_of last (fields_align frames) in
+    let bits : ℕ → ℕ = λ at. bit_or (fields_byte (positions 0 frames) at) (whole_between last to at) in
+    fields_free rules target 0 to fs vs i i k all small (omega arith)
+    (within bits (struct_frame frames align).size i k h (cases_lt i (struct_frame frames align).size))
+struct_free rules target label fs align unit i k all small h = refl
+struct_free rules target label fs align (integer m n) i k all small h = refl
+struct_free rules target label fs align (boolean x) i k all small h = refl
+struct_free rules target label fs align (order x) i k all small h = refl
+struct_free rules target label fs align (bytes x) i k all small h = refl
+struct_free rules target label fs align (variant kind first v) i k all small h = refl
+
+struct_allowed : (rules : Rules) (target : Target) (label : Label) (fs : Branches) (align : Option ℕ) (v : Plain) (g : Image) → AllCover rules target fs
+    → Shows (planned rules target (trees.struct label fs align)) v g → list_any (is_match g) (struct_frame (written_frames rules target fs) align).forbids ≡ false
+unfolding struct_frame
+struct_allowed rules target label fs align (list vs) g all shown = fields_allowed rules target 0 fs vs g g all (λ i. ap g (omega arith)) shown
+struct_allowed rules target label fs align _ g all shown = absurd shown
+
+-- ---- every description without a fault
+
+pub record IsCovered (f : Frame) (s : Shape) : Type 0 where
+  pub covers : Covers f s
+  pub sound : IsSound s
+
+sum_covered : (rules : Rules) (names : Sort) (f g : Frame) (a b : Shape) → size a ≡ f.size → size b ≡ g.size → IsCovered f a → IsCovered g b → owed.IsSound f → owed.IsSound g
+    → IsCovered (written_sum rules f g) (sum names (sides a b) (spot_of rules f g))
+sum_covered rules names f g a b na nb ca cb sf sg =
+    let o = placement_owes rules f g sf sg in
+    let are : AreVariants f g a b = record { size_ = both_sizes; cover = both_cover } in
+    record {
+      covers = sum_covers rules names f g a b are o;
+      sound = (both_sound, record { each = spot_side rules f g a b are o; tested = o.tested });
+    }
+  where
+    both_sizes : (first : Bool) → size (sides a b first) ≡ (sides f g first).size
+    both_sizes true = na
+    both_sizes false = nb
+
+    both_cover : (first : Bool) → Covers (sides f g first) (sides a b first)
+    both_cover true = ca.covers
+    both_cover false = cb.covers
+
+    both_sound : (first : Bool) → IsSound (sides a b first)
+    both_sound true = ca.sound
+    both_sound false = cb.sound
+
+mutual
+  pub part_covered : (rules : Rules) (target : Target) (first : ℕ) (t : Tree) → is_row target ≡ true → part_fault rules target first t ≡ None
+      → IsCovered (written_frame rules target t) (planned rules target t)
+  part_covered rules target first (trees.prim p) row h = record { covers = prim_covers target p; sound = tt }
+  part_covered rules target first (trees.struct label fs align) row h =
+      let frames : List Frame = written_frames rules target fs in
+      let whole : Option DescError = size_fault (first + parts_in fs) (written_frame rules target (trees.struct label fs align)) in
+      let a = no_fault (part_fault_in rules target first fs) (or_else (align_fault (first + parts_in fs) align) whole) h in
+      let all = parts_covered rules target first fs row a.0 in
+      let inside : size_in (planned_in rules target 0 fs) ≤ (struct_frame frames align).size =
+      omega (arith, fields_size rules target 0 fs, struct_end frames align) in
+      record {
+        covers = record {
+          free = λ v i k small free. struct_free rules target label fs align v i k all small free;
+          items = λ v g shown. struct_allowed rules target label fs align v g all shown;
+        };
+        sound = (fields_sound rules target 0 fs all, inside);
+      }
+  part_covered rules target first (trees.sum names side) row h =
+      let ok : Tree = side true in
+      let err : Tree = side false in
+      let number : ℕ = first + variant_parts names (parts ok) (parts err) in
+      let whole : Option DescError = size_fault number (written_frame rules target (trees.sum names side)) in
+      let a = no_fault (part_fault rules target first ok) (or_else (part_fault rules target (first + parts ok) err) whole) h in
+      let b = no_fault (part_fault rules target (first + parts ok) err) whole a.1 in
+      sum_covered rules names (written_frame rules target ok) (written_frame rules target err) (planned rules target ok) (planned rules target err)
+      (same_size rules target ok) (same_size rules target err)
+      (part_covered rules target first (side true) row a.0) (part_covered rules target (first + parts ok) (side false) row b.0)
+      (part_sound rules target first ok row a.0) (part_sound rules target (first + parts ok) err row b.0)
+
+  pub parts_covered : (rules : Rules) (target : Target) (first : ℕ) (fs : Branches) → is_row target ≡ true → part_fault_in rules target first fs ≡ None
+      → AllCover rules target fs
+  parts_covered rules target first trees.none row h = tt
+  parts_covered rules target first (trees.field name t fs) row h =
+      let a = no_fault (part_fault rules target first t) (part_fault_in rules target (first + parts t) fs) h in
+      let here = part_covered rules target first t row a.0 in
+      let f = written_frame rules target t in (
+        here.covers,
+        here.sound,
+        λ at past. zero_past f.free f.size at (lawful_parts f (part_sound rules target first t row a.0).lawful).free past,
+        parts_covered rules target (first + parts t) fs row a.1,
+      )

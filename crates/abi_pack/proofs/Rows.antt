@@ -1,0 +1,123 @@
+-- Equal fields in a row.
+use Rattle.std.proofs.Common.{◌≡◌, ℕ, zero, suc, ◌+◌, ◌*◌, ◌-◌, ◌<◌, ◌≤◌, List, [], ◌∷◌, ◌++◌, ◌&&◌, length, Bool, true, false, refl, ap, ◌∙◌, ◌⊎◌, inl, inr, sym, arith}
+use mathlib.Core.Path.{fun_ext}
+use Rattle.abi_pack.specs.Image.{Image, from}
+use Rattle.abi_pack.specs.Told.{is_shown, is_shown_in, told, told_in}
+use Rattle.abi_pack.proofs.Offsets.{from_from, joined_end, joined_push}
+use Rattle.abi_pack.specs.Plain.{Plains, list, end, more}
+use Rattle.abi_layout.specs.Shape.{Shape, fields, field, size, size_in, repeated}
+use Rattle.abi_pack.specs.Sound.{IsSound, AreSound}
+use Rattle.abi_pack.specs.Shows.{fits, fits_in}
+use Rattle.abi_pack.specs.View.{shape, plain, plains, joined}
+use Rattle.std.specs.declared.boxed.Box.{Box}
+use Rattle.std.specs.declared.alloc.Global.{Global}
+use Rattle.abi_layout.specs.declared.part.Compound.TheVariants as compound
+use Rattle.abi_layout.specs.declared.part.Part.{Part}
+use Rattle.abi_layout.specs.declared.part.Part.TheVariants as part
+use Rattle.abi_pack.specs.declared.value.Value.{Value}
+use Rattle.abi_pack.specs.declared.value.Value.TheVariants as value
+use Rattle.abi_pack.proofs.Choice.{and_second, two_truths}
+use Rattle.abi_pack.proofs.Views.{shape_array, plain_list}
+use Rattle.abi_pack.proofs.Nodes.{nodes, nodes_in}
+
+pub row_next : (n i : ℕ) (s : Shape) → i < n → repeated (n - i) s ≡ field 0 s (repeated (n - (i + 1)) s)
+row_next n i s h = let e : n - i ≡ suc (n - (i + 1)) = omega arith in ap (λ m. repeated m s) e
+
+pub row_size : (n : ℕ) (s : Shape) → size_in (repeated n s) ≡ n * size s
+row_size zero s = omega arith
+row_size (suc n) s = let rest : size_in (repeated n s) ≡ n * size s = row_size n s in omega arith
+
+-- one of them takes no more bytes than all
+pub row_one_size : (n : ℕ) (s : Shape) → 0 < n → size s ≤ size_in (repeated n s)
+row_one_size zero s h = absurd (omega arith)
+row_one_size (suc n) s h = omega arith
+
+pub row_sound : (n : ℕ) (s : Shape) → 0 < n → AreSound (repeated n s) → IsSound s
+row_sound zero s h sound = absurd (omega arith)
+row_sound (suc n) s h sound = sound.0
+
+pub row_nodes : (n : ℕ) (s : Shape) → 0 < n → nodes s < nodes_in (repeated n s)
+row_nodes zero s h = absurd (omega arith)
+row_nodes (suc n) s h = omega arith
+
+-- as many values as fields
+pub row_count : (n : ℕ) (s : Shape) (vs : List Value) → fits_in (repeated n s) (plains vs) ≡ true → n ≡ length vs
+row_count zero s [] h = refl
+row_count zero s (v ∷ vs) h = absurd (cc)
+row_count (suc n) s [] h = absurd (cc)
+row_count (suc n) s (v ∷ vs) h = ap suc (row_count n s vs (and_second (fits s _) _ h))
+
+pub row_other_count : (n : ℕ) (s : Shape) (vs : List Value) → (length vs ≡ n → ⊥) → false ≡ fits_in (repeated n s) (plains vs)
+row_other_count n s vs other = by_truth (fits_in (repeated n s) (plains vs)) (two_truths _) (λ h. other (sym (row_count n s vs h)))
+  where
+    by_truth : (p : Bool) → (p ≡ true) ⊎ (p ≡ false) → (p ≡ true → ⊥) → false ≡ p
+    by_truth p (inl h) never = absurd (never h)
+    by_truth p (inr h) never = sym h
+
+-- ---- of an array's part
+
+pub array_is : (p : Part) (one : Part) (item : Box Part Global) (len whole : ℕ) → p ≡ part.Array item len whole → one ≡ item.value → shape p ≡ fields compound.Array whole (repeated len (shape one))
+array_is p one item len whole e same = rw (e, same) (shape_array item len whole)
+
+-- the row has fewer nodes than the array, and an item fewer than the row
+pub array_fewer : (p : Part) (one : Part) (item : Box Part Global) (len whole : ℕ) → p ≡ part.Array item len whole → one ≡ item.value → nodes_in (repeated len (shape one)) < nodes (shape p)
+array_fewer p one item len whole e same = rw (array_is p one item len whole e same) (omega arith)
+
+pub array_one : (p : Part) (one : Part) (item : Box Part Global) (len whole : ℕ) → p ≡ part.Array item len whole → one ≡ item.value → 0 < len
+    → nodes (shape one) < nodes (shape p)
+array_one p one item len whole e same some =
+    let fewer : nodes (shape one) < nodes_in (repeated len (shape one)) = row_nodes len (shape one) some in
+    rw (array_is p one item len whole e same) (omega arith)
+
+-- ---- the items from one on
+
+pub row_size_next : (n i : ℕ) (s : Shape) → i < n → size_in (repeated (n - i) s) ≡ size s + size_in (repeated (n - (i + 1)) s)
+row_size_next n i s h = rw (row_next n i s h) (omega arith)
+
+from_nothing : (f : Image) → from 0 f ≡ f
+from_nothing f = fun_ext (λ i. ap f (omega arith))
+
+shown_next : (n i : ℕ) (s : Shape) (f : Image) (o x y : ℕ) → i < n → x ≡ o → y ≡ o + size s
+    → is_shown_in (repeated (n - i) s) (from o f) ≡ (is_shown s (from x f) && is_shown_in (repeated (n - (i + 1)) s) (from y f))
+shown_next n i s f o x y h ex ey = rw (row_next n i s h, from_from f x o 0 (omega arith), from_from f y o (0 + size s) (omega arith)) refl
+
+pub row_shown_on : (n i : ℕ) (s : Shape) (f : Image) (o y : ℕ) (r : Bool) → i < n → y ≡ o + size s → true ≡ is_shown s (from o f)
+    → is_shown_in (repeated (n - i) s) (from o f) ≡ r → is_shown_in (repeated (n - (i + 1)) s) (from y f) ≡ r
+row_shown_on n i s f o y r h ey one e = let next = shown_next n i s f o o y h refl ey in sym (rw (← one) at next) ∙ e
+
+pub row_shown_not : (n i : ℕ) (s : Shape) (f : Image) (o : ℕ) (r : Bool) → i < n → false ≡ is_shown s (from o f)
+    → is_shown_in (repeated (n - i) s) (from o f) ≡ r → false ≡ r
+row_shown_not n i s f o r h one e = let next = shown_next n i s f o o (o + size s) h refl refl in sym (rw (← one) at next) ∙ e
+
+both : (p q r : Bool) → q ≡ p → r ≡ p → p ≡ (q && r)
+both true q r e f = rw (e, f) refl
+both false q r e f = rw e refl
+
+-- items without bytes all stand at one place
+pub row_point : (n : ℕ) (s : Shape) (f : Image) → 0 < n → size s ≡ 0 → is_shown s f ≡ is_shown_in (repeated n s) f
+row_point zero s f h none = absurd (omega arith)
+row_point (suc zero) s f h none = sym (and_true _) ∙ ap (λ g. is_shown s g && true) (sym (from_nothing f))
+  where
+    and_true : (p : Bool) → (p && true) ≡ p
+    and_true true = refl
+    and_true false = refl
+row_point (suc (suc n)) s f h none =
+    let nothing : 0 + size s ≡ 0 = omega arith in
+    let rest : is_shown s f ≡ is_shown_in (repeated (suc n) s) f = row_point (suc n) s f (omega arith) none in
+    both (is_shown s f) (is_shown s (from 0 f)) (is_shown_in (repeated (suc n) s) (from (0 + size s) f)) (ap (is_shown s) (from_nothing f))
+    (ap (λ o. is_shown_in (repeated (suc n) s) (from o f)) nothing ∙ ap (is_shown_in (repeated (suc n) s)) (from_nothing f) ∙ sym rest)
+
+told_next : (n i : ℕ) (s : Shape) (f : Image) (o x y : ℕ) (v : Value) → i < n → x ≡ o → y ≡ o + size s → plain v ≡ told s (from x f)
+    → told_in (repeated (n - i) s) (from o f) ≡ more (plain v) (told_in (repeated (n - (i + 1)) s) (from y f))
+told_next n i s f o x y v h ex ey value = rw (row_next n i s h, value, from_from f x o 0 (omega arith), from_from f y o (0 + size s) (omega arith)) refl
+
+pub row_told : (n i : ℕ) (s : Shape) (f : Image) (o y : ℕ) (old pushed : List Value) (v : Value) (r : Plains) → i < n → y ≡ o + size s
+    → pushed ≡ old ++ v ∷ [] → plain v ≡ told s (from o f) → joined old (told_in (repeated (n - i) s) (from o f)) ≡ r
+    → joined pushed (told_in (repeated (n - (i + 1)) s) (from y f)) ≡ r
+row_told n i s f o y old pushed v r h ey is value e =
+    rw is (joined_push old v (told_in (repeated (n - (i + 1)) s) (from y f))) ∙ ap (joined old) (sym (told_next n i s f o o y v h refl ey value)) ∙ e
+
+pub told_array : (vs old : List Value) (p one : Part) (item : Box Part Global) (len whole : ℕ) (f : Image) → p ≡ part.Array item len whole → one ≡ item.value → old ≡ []
+    → joined vs end ≡ joined old (told_in (repeated len (shape one)) f) → plain (value.List vs) ≡ told (shape p) f
+told_array vs old p one item len whole f e same none is =
+    plain_list vs ∙ ap list (sym (joined_end vs) ∙ rw none at is) ∙ sym (ap (λ s. told s f) (array_is p one item len whole e same))

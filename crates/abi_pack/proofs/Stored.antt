@@ -1,0 +1,254 @@
+-- Primitives: a value is told from the bytes in which it stands, and legal bytes are those of the value that they tell.
+use Rattle.std.specs.Prelude.{nat_lt, nat_le}
+use Rattle.std.specs.List.{list_any}
+use Rattle.std.proofs.Common.{◌≡◌, ℕ, zero, suc, ◌-◌, ◌*◌, ◌<◌, ◌≤◌, List, [], ◌∷◌, ◌++◌, length, get_or, ◌⊎◌, inl, inr, ◌==◌, Bool, true, false, cond, ◌&&◌, ◌||◌, refl, ap, ◌∙◌, sym, arith, lit<, length-append}
+use Rattle.std.proofs.lemmas.Bool.{cases_lt}
+use Rattle.std.proofs.lemmas.Bool.Decides.{nat_tests}
+use Rattle.std.proofs.lemmas.List.{ext_get_or, get_or-append_right, get_or_append_left}
+use Rattle.std.proofs.Math.ListN.{get_or-eq_default}
+use Rattle.std.proofs.lemmas.List.Folds.{list_all-append}
+use Rattle.abi_bits.specs.Pairs.{Pair, is_matched}
+use Rattle.abi_bits.specs.Forbidden.{is_match}
+use Rattle.abi_pack.specs.Image.{Image, AreBytes, firsts}
+use Rattle.abi_pack.specs.Plain.{Plain, unit, integer, boolean}
+use Rattle.abi_layout.specs.Prims.{width_size, scalar_size, zero_bytes, scalar_items}
+use Rattle.abi_pack.specs.Scalars.{full, half, is_int, is_value, low_bytes, low_worth, ordered, coded, stored, number_in, is_legal, int_told, scalar_told, ShowsScalar}
+use Rattle.abi_layout.specs.declared.scalar.Scalar.{Scalar}
+use Rattle.abi_layout.specs.declared.scalar.Scalar.TheVariants as scalars
+use Rattle.abi_layout.specs.declared.scalar.Integer.{Integer}
+use Rattle.abi_layout.specs.declared.scalar.Width.{Width}
+use Rattle.abi_layout.specs.declared.scalar.Width.TheVariants as width
+use Rattle.abi_pack.proofs.Choice.{branch, and_first, and_second, and_both}
+use Rattle.abi_pack.proofs.Numbers.{AllBytes, low_length, low_small, low_back, low_again, low_bound, ordered_twice, ordered_length, ordered_small, ordered_each, no_worth}
+
+pub halves : (w : Width) → full w ≡ 2 * half w
+halves width.One = refl
+halves width.Two = refl
+halves width.Four = refl
+halves width.Eight = refl
+halves width.Sixteen = refl
+
+pub some_half : (w : Width) → 0 < half w
+some_half width.One = lit< tt
+some_half width.Two = lit< tt
+some_half width.Four = lit< tt
+some_half width.Eight = lit< tt
+some_half width.Sixteen = lit< tt
+
+-- what an integer of the c is stored as, and what that tells
+pub record IsCoded (f : Integer) (m : ℕ) (negative : Bool) : Type 0 where
+  pub small : coded f m negative < full f.width
+  pub told : int_told f (coded f m negative) ≡ integer m negative
+  pub legal : (f.zero || nat_lt 0 (coded f m negative)) ≡ true
+
+told_low : (f : Integer) (x : ℕ) → (f.signed && nat_le (half f.width) x) ≡ false → int_told f x ≡ integer x false
+told_low f x e = rw e refl
+
+told_high : (f : Integer) (x : ℕ) → (f.signed && nat_le (half f.width) x) ≡ true → int_told f x ≡ integer (full f.width - x) true
+told_high f x e = rw e refl
+
+or_positive : (p : Bool) (x : ℕ) → 0 < x → (p || nat_lt 0 x) ≡ true
+or_positive p x h = grind (arith, nat_tests)
+
+below_half : (signed : Bool) (w : Width) (m : ℕ) → nat_lt m (cond signed (half w) (full w)) ≡ true
+    → (m < full w) × ((signed && nat_le (half w) m) ≡ false)
+below_half true w m h = let double : full w ≡ 2 * half w = halves w in (grind (arith, nat_tests), grind (arith, nat_tests))
+below_half false w m h = (grind (arith, nat_tests), refl)
+
+pub int_coded : (f : Integer) (m : ℕ) (negative : Bool) → is_int f m negative ≡ true → IsCoded f m negative
+int_coded f m true h =
+    let signed : f.signed ≡ true = and_first f.signed _ h in
+    let rest : (nat_lt 0 m && nat_le m (half f.width)) ≡ true = and_second f.signed _ h in
+    let positive : 0 < m = grind (arith, nat_tests) in
+    let low : m ≤ half f.width = grind (arith, nat_tests) in
+    let double : full f.width ≡ 2 * half f.width = halves f.width in
+    let some : 0 < half f.width = some_half f.width in
+    let high : nat_le (half f.width) (full f.width - m) ≡ true = grind (arith, nat_tests) in
+    let back : full f.width - (full f.width - m) ≡ m = omega arith in
+    record {
+      small = omega arith;
+      told = told_high f (full f.width - m) (and_both f.signed _ signed high) ∙ ap (λ n. integer n true) back;
+      legal = or_positive f.zero (full f.width - m) (omega arith);
+    }
+int_coded f m false h =
+    let some : (f.zero || nat_lt 0 m) ≡ true = and_first (f.zero || nat_lt 0 m) _ h in
+    let low : nat_lt m (cond f.signed (half f.width) (full f.width)) ≡ true = and_second (f.zero || nat_lt 0 m) _ h in
+    let both = below_half f.signed f.width m low in
+    record { small = both.0; told = told_low f m both.1; legal = some }
+
+pub record IsToldInt (f : Integer) (x : ℕ) (v : Plain) : Type 0 where
+  pub value : is_value (scalars.Int f) v ≡ true
+  pub same : stored (scalars.Int f) v ≡ ordered f.little (low_bytes (width_size f.width) x)
+
+is_high : (signed : Bool) (w : Width) (x : ℕ) → x < full w → (signed && nat_le (half w) x) ≡ true
+    → (signed && (nat_lt 0 (full w - x) && nat_le (full w - x) (half w))) ≡ true
+is_high true w x s h = let double : full w ≡ 2 * half w = halves w in grind (arith, nat_tests)
+is_high false w x s h = absurd (cc)
+
+is_low : (signed : Bool) (w : Width) (x : ℕ) → x < full w → (signed && nat_le (half w) x) ≡ false
+    → nat_lt x (cond signed (half w) (full w)) ≡ true
+is_low true w x s h = grind (arith, nat_tests)
+is_low false w x s h = grind (arith, nat_tests)
+
+pub int_again : (f : Integer) (x : ℕ) → x < full f.width → (f.zero || nat_lt 0 x) ≡ true → IsToldInt f x (int_told f x)
+int_again f x small some =
+    branch (IsToldInt f x) (f.signed && nat_le (half f.width) x) (integer (full f.width - x) true) (integer x false)
+    (λ e. let back : full f.width - (full f.width - x) ≡ x = omega arith in
+    record { value = is_high f.signed f.width x small e; same = ap (λ n. ordered f.little (low_bytes (width_size f.width) n)) back })
+    (λ e. record { value = and_both (f.zero || nat_lt 0 x) _ some (is_low f.signed f.width x small e); same = refl })
+
+-- ---- the first bytes of an image
+
+pub firsts_length : (n : ℕ) (f : Image) → length (firsts n f) ≡ n
+firsts_length zero f = refl
+firsts_length (suc n) f = let rest : length (firsts n f) ≡ n = firsts_length n f in simp length-append (omega arith)
+
+pub firsts_at : (n : ℕ) (f : Image) (i : ℕ) → i < n → get_or (firsts n f) i 0 ≡ f i
+firsts_at zero f i h = absurd (omega arith)
+firsts_at (suc n) f i h = firsts_step n f i h (cases_lt i n) (λ l. firsts_at n f i l)
+  where
+    firsts_step : (n : ℕ) (f : Image) (i : ℕ) → i < suc n → (i < n) ⊎ (n ≤ i) → (i < n → get_or (firsts n f) i 0 ≡ f i) → get_or (firsts n f ++ f n ∷ []) i 0 ≡ f i
+    firsts_step n f i h (inl l) below = let inside : i < length (firsts n f) = rw (firsts_length n f) l in get_or_append_left (firsts n f) (f n ∷ []) 0 i inside ∙ below l
+    firsts_step n f i h (inr g) below =
+        let same : i ≡ n = omega arith in
+        rw same (get_or-append_right (firsts n f) (f n ∷ []) n n 0 (firsts_length n f) (omega arith) ∙ (let none : n - n ≡ 0 = omega arith in rw none refl))
+
+pub firsts_small : (n : ℕ) (f : Image) → AreBytes f → AllBytes (firsts n f)
+firsts_small zero f b i = lit< tt
+firsts_small (suc n) f b i = small_step n f b i (cases_lt i (suc n))
+  where
+    small_step : (n : ℕ) (f : Image) → AreBytes f → (i : ℕ) → (i < suc n) ⊎ (suc n ≤ i) → get_or (firsts (suc n) f) i 0 < 256
+    small_step n f b i (inl l) = rw (firsts_at (suc n) f i l) (b i)
+    small_step n f b i (inr g) = let past : length (firsts (suc n) f) ≤ i = rw (firsts_length (suc n) f) g in rw (get_or-eq_default (firsts (suc n) f) 0 past) (lit< tt)
+
+-- ---- what is stored
+
+pub stored_length : (c : Scalar) (v : Plain) → is_value c v ≡ true → length (stored c v) ≡ scalar_size c
+stored_length scalars.Unit unit h = refl
+stored_length scalars.Bool (boolean b) h = refl
+stored_length (scalars.Int f) (integer m negative) h =
+    ordered_length f.little (low_bytes (width_size f.width) (coded f m negative)) ∙ low_length (width_size f.width) (coded f m negative)
+stored_length _ _ h = absurd (cc)
+
+pub stored_small : (c : Scalar) (v : Plain) → is_value c v ≡ true → AllBytes (stored c v)
+stored_small scalars.Unit unit h i = lit< tt
+stored_small scalars.Bool (boolean true) h zero = lit< tt
+stored_small scalars.Bool (boolean false) h zero = lit< tt
+stored_small scalars.Bool (boolean b) h (suc i) = lit< tt
+stored_small (scalars.Int f) (integer m negative) h i =
+    ordered_small f.little _ (low_small (width_size f.width) (coded f m negative)) i
+stored_small _ _ h i = absurd (cc)
+
+pub number_shown : (f : Integer) (m : ℕ) (negative : Bool) (g : Image) → ShowsScalar (scalars.Int f) (integer m negative) g → number_in f g ≡ coded f m negative
+number_shown f m negative g shown =
+    let n : ℕ = width_size f.width in
+    let written : List ℕ = low_bytes n (coded f m negative) in
+    let long : length (ordered f.little written) ≡ n = stored_length (scalars.Int f) (integer m negative) shown.value in
+    let same : firsts n g ≡ ordered f.little written =
+    ext_get_or 0 (firsts n g) (ordered f.little written) (firsts_length n g ∙ sym long)
+    (λ i h. let inside : i < n = rw (firsts_length n g) at h in firsts_at n g i inside ∙ shown.same i inside) in
+    let coded_ : IsCoded f m negative = int_coded f m negative shown.value in
+    ap (λ xs. low_worth (ordered f.little xs)) same ∙ ap low_worth (ordered_twice f.little written) ∙ low_back n (coded f m negative) coded_.small
+
+-- ---- bytes that show a value are legal, and tell it
+
+pub shown_legal : (c : Scalar) (v : Plain) (g : Image) → ShowsScalar c v g → is_legal c g ≡ true
+shown_legal scalars.Unit unit g shown = refl
+shown_legal scalars.Bool (boolean true) g shown = let one : g 0 ≡ 1 = shown.same 0 (lit< tt) in grind (arith, nat_tests)
+shown_legal scalars.Bool (boolean false) g shown = let none : g 0 ≡ 0 = shown.same 0 (lit< tt) in grind (arith, nat_tests)
+shown_legal (scalars.Int f) (integer m negative) g shown = rw (number_shown f m negative g shown) (int_coded f m negative shown.value).legal
+shown_legal _ _ g shown = absurd (let h = shown.value in cc)
+
+pub shown_told : (c : Scalar) (v : Plain) (g : Image) → ShowsScalar c v g → v ≡ scalar_told c g
+shown_told scalars.Unit unit g shown = refl
+shown_told scalars.Bool (boolean true) g shown =
+    let one : g 0 ≡ 1 = shown.same 0 (lit< tt) in let test : nat_lt 0 (g 0) ≡ true = grind (arith, nat_tests) in rw test refl
+shown_told scalars.Bool (boolean false) g shown =
+    let none : g 0 ≡ 0 = shown.same 0 (lit< tt) in let test : nat_lt 0 (g 0) ≡ false = grind (arith, nat_tests) in rw test refl
+shown_told (scalars.Int f) (integer m negative) g shown = sym (rw (number_shown f m negative g shown) (int_coded f m negative shown.value).told)
+shown_told _ _ g shown = absurd (let h = shown.value in cc)
+
+bool_shown : (g : Image) (b : Bool) → nat_lt 0 (g 0) ≡ b → nat_lt (g 0) 2 ≡ true → ShowsScalar scalars.Bool (boolean b) g
+bool_shown g true e h = record { value = refl; same = λ i l. let first : i ≡ 0 = omega arith in rw first (grind (arith, nat_tests)) }
+bool_shown g false e h = record { value = refl; same = λ i l. let first : i ≡ 0 = omega arith in rw first (grind (arith, nat_tests)) }
+
+int_shown : (f : Integer) (g : Image) → AreBytes g → (f.zero || nat_lt 0 (number_in f g)) ≡ true → ShowsScalar (scalars.Int f) (int_told f (number_in f g)) g
+int_shown f g b legal =
+    let n : ℕ = width_size f.width in
+    let there : List ℕ = ordered f.little (firsts n g) in
+    let long : length there ≡ n = ordered_length f.little (firsts n g) ∙ firsts_length n g in
+    let small : AllBytes there = ordered_small f.little (firsts n g) (firsts_small n g b) in
+    let bound : low_worth there < full f.width = rw long at (low_bound there small) in
+    let told : IsToldInt f (low_worth there) (int_told f (low_worth there)) = int_again f (low_worth there) bound legal in
+    let again : low_bytes n (low_worth there) ≡ there = rw long at (low_again there small) in
+    let same : stored (scalars.Int f) (int_told f (low_worth there)) ≡ firsts n g =
+    told.same ∙ ap (ordered f.little) again ∙ ordered_twice f.little (firsts n g) in
+    record { value = told.value; same = λ i h. sym (rw same (firsts_at n g i h)) }
+
+pub legal_shown : (c : Scalar) (g : Image) → AreBytes g → is_legal c g ≡ true → ShowsScalar c (scalar_told c g) g
+legal_shown scalars.Unit g b legal = record { value = refl; same = λ i h. absurd (omega arith) }
+legal_shown scalars.Bool g b legal = bool_shown g (nat_lt 0 (g 0)) refl legal
+legal_shown (scalars.Int f) g b legal = int_shown f g b legal
+
+pub number_bound : (f : Integer) (g : Image) → AreBytes g → number_in f g < full f.width
+number_bound f g b =
+    let n : ℕ = width_size f.width in
+    rw (ordered_length f.little (firsts n g), firsts_length n g) at
+    (low_bound (ordered f.little (firsts n g)) (ordered_small f.little (firsts n g) (firsts_small n g b)))
+
+-- ---- bytes that show a value match none of the primitive's items
+
+abbrev has_pair : Image → Pair → Bool
+has_pair g p = g p.0 == p.1
+
+zeros : (n : ℕ) (g : Image) → is_matched (zero_bytes n) g ≡ true → (i : ℕ) → i < n → g i ≡ 0
+zeros zero g h i l = absurd (omega arith)
+zeros (suc n) g h i l =
+    let pair : Pair = (n, 0) in
+    let parts : (is_matched (zero_bytes n) g && is_matched (pair ∷ []) g) ≡ true =
+    sym (list_all-append (has_pair g) (zero_bytes n) (pair ∷ [])) ∙ h in
+    let before : is_matched (zero_bytes n) g ≡ true = and_first (is_matched (zero_bytes n) g) _ parts in
+    let after : is_matched (pair ∷ []) g ≡ true = and_second (is_matched (zero_bytes n) g) _ parts in
+    let here : g n ≡ 0 = grind (arith, nat_tests) in
+    zeros_step n g i l here (cases_lt i n) (λ b. zeros n g before i b)
+  where
+    zeros_step : (n : ℕ) (g : Image) (i : ℕ) → i < suc n → g n ≡ 0 → (i < n) ⊎ (n ≤ i) → (i < n → g i ≡ 0) → g i ≡ 0
+    zeros_step n g i l here (inl b) below = below b
+    zeros_step n g i l here (inr a) below = let same : i ≡ n = omega arith in rw same here
+
+first_zeros : (n : ℕ) (g : Image) → is_matched (zero_bytes n) g ≡ true → (i : ℕ) → (i < n) ⊎ (n ≤ i) → get_or (firsts n g) i 0 ≡ 0
+first_zeros n g h i (inl l) = firsts_at n g i l ∙ zeros n g h i l
+first_zeros n g h i (inr a) = let past : length (firsts n g) ≤ i = rw (firsts_length n g) a in get_or-eq_default (firsts n g) 0 past
+
+no_number : (f : Integer) (g : Image) → is_matched (zero_bytes (width_size f.width)) g ≡ true → number_in f g ≡ 0
+no_number f g h =
+    let n : ℕ = width_size f.width in
+    no_worth (ordered f.little (firsts n g)) (ordered_each (λ x. x ≡ 0) f.little (firsts n g) refl (λ i. first_zeros n g h i (cases_lt i n)))
+
+is_no_zero : (f : Integer) (g : Image) → f.zero ≡ false → (f.zero || nat_lt 0 (number_in f g)) ≡ true → (r : Bool) → is_matched (zero_bytes (width_size f.width)) g ≡ r → r ≡ false
+is_no_zero f g none legal true e =
+    let number : number_in f g ≡ 0 = no_number f g e in
+    let test : nat_lt 0 (number_in f g) ≡ true = rw none at legal in absurd (grind (arith, nat_tests))
+is_no_zero f g none legal false e = refl
+
+or_false : (p : Bool) → p ≡ false → (p || false) ≡ false
+or_false p h = rw h refl
+
+pub scalar_allowed : (c : Scalar) (v : Plain) (g : Image) → ShowsScalar c v g → list_any (is_match g) (scalar_items c) ≡ false
+scalar_allowed scalars.Unit v g shown = refl
+scalar_allowed scalars.Bool v g shown =
+    let low : nat_lt (g 0) 2 ≡ true = shown_legal scalars.Bool v g shown in grind (arith, nat_tests)
+scalar_allowed (scalars.Int f) v g shown =
+    let legal : (f.zero || nat_lt 0 (number_in f g)) ≡ true = shown_legal (scalars.Int f) v g shown in
+    branch (λ its. list_any (is_match g) its ≡ false) f.zero [] _ (λ _. refl)
+    (λ none. or_false (is_matched (zero_bytes (width_size f.width)) g) (is_no_zero f g none legal _ refl))
+
+pub int_small : (f : Integer) (m : ℕ) (negative : Bool) → is_int f m negative ≡ true → (coded f m negative < full f.width) × (negative ≡ true → (0 < m) × (m ≤ full f.width))
+int_small f m negative h = ((int_coded f m negative h).small, λ e. positive f m negative h e)
+  where
+    positive : (f : Integer) (m : ℕ) (negative : Bool) → is_int f m negative ≡ true → negative ≡ true → (0 < m) × (m ≤ full f.width)
+    positive f m true h e =
+        let rest : (nat_lt 0 m && nat_le m (half f.width)) ≡ true = and_second f.signed _ h in
+        let double : full f.width ≡ 2 * half f.width = halves f.width in
+        (grind (arith, nat_tests), grind (arith, nat_tests))
+    positive f m false h e = absurd (cc)

@@ -1,0 +1,40 @@
+use std::fmt;
+
+/// What is wrong with a job: the first fault of its description, else that of its value.
+#[derive(Debug, Clone, Copy, PartialEq, Eq)]
+pub enum Fault {
+    /// The target is not a supported one.
+    BadTarget,
+    /// There are more than 4,096 parts.
+    TooManyParts,
+    /// The part breaks a rule of its form.
+    IllFormed {
+        /// The part's number.
+        part: u32,
+    },
+    /// The part is larger than a part may be.
+    TooLarge {
+        /// The part's number.
+        part: u32,
+    },
+    /// The value is none of the description's.
+    WrongValue,
+}
+
+impl fmt::Display for Fault {
+    ghost use Rattle.std.specs.Prelude.{Some};
+    ghost use Rattle.abi_tool.specs.Lines.{fault_text};
+
+    ghost output = { λ fault. Some (fault_text fault) };
+
+    #[tactic(auto, unfolding(crate::specs::Lines::fault_text))]
+    fn fmt<W: fmt::Write>(&self, f: &mut fmt::Formatter<W>) -> fmt::Result {
+        match self {
+            Fault::BadTarget => write!(f, "BadTarget"),
+            Fault::TooManyParts => write!(f, "TooManyParts"),
+            Fault::IllFormed { part } => write!(f, "IllFormed part {part}"),
+            Fault::TooLarge { part } => write!(f, "TooLarge part {part}"),
+            Fault::WrongValue => write!(f, "WrongValue"),
+        }
+    }
+}
