@@ -140,3 +140,49 @@ fn texts_are_those_of_the_base(rt: HostRuntime) -> Result<(), Fail> {
     );
     Ok(())
 }
+
+#[test]
+fn texts_take_the_options_of_the_base(rt: HostRuntime) -> Result<(), Fail> {
+    let alloc = rt.alloc();
+    let (low, high) = (i6::new(-2).ok_or("-2")?, i6::new(9).ok_or("9")?);
+    assert_eq!(rt;
+        format!(in alloc;
+            "{low:4}|{low:<4}|{low:^4}|{low:*>4}|{low:04}|{low:+}|{high:+}|{low:#?}"
+        )?.as_str(),
+        "  -2|-2  | -2 |**-2|-002|-2|+9|-2"
+    );
+    // -2 in 8 bits
+    assert_eq!(rt;
+        format!(in alloc; "{low:#x} {low:#X} {low:#o} {low:#b}")?.as_str(),
+        "0xfe 0xFE 0o376 0b11111110"
+    );
+    // a width of 10, and of 12 with zeros behind what tells the base
+    assert_eq!(rt;
+        format!(in alloc; "{low:10x}|{low:10X}|{low:10o}|{low:10b}")?.as_str(),
+        "        fe|        FE|       376|  11111110"
+    );
+    assert_eq!(rt;
+        format!(in alloc; "{low:#012x}|{low:#012X}|{low:#012o}|{low:#012b}")?.as_str(),
+        "0x00000000fe|0x00000000FE|0o0000000376|0b0011111110"
+    );
+    // -2 in 128 bits
+    let wide = i100::new(-2).ok_or("wide")?;
+    assert_eq!(rt; format!(in alloc; "{wide:5}")?.as_str(), "   -2");
+    assert_eq!(rt;
+        format!(in alloc; "{:#036}", Shown::LowerHex(wide))?.as_str(),
+        "0x00fffffffffffffffffffffffffffffffe"
+    );
+    assert_eq!(rt;
+        format!(in alloc; "{:#}", Shown::UpperHex(wide))?.as_str(),
+        "0xFFFFFFFFFFFFFFFFFFFFFFFFFFFFFFFE"
+    );
+    assert_eq!(rt;
+        format!(in alloc; "{:#}", Shown::Octal(low))?.as_str(),
+        "0o376"
+    );
+    assert_eq!(rt;
+        format!(in alloc; "{:#}", Shown::Binary(low))?.as_str(),
+        "0b11111110"
+    );
+    Ok(())
+}

@@ -127,3 +127,51 @@ fn texts_are_those_of_the_base(rt: HostRuntime) -> Result<(), Fail> {
     );
     Ok(())
 }
+
+#[test]
+fn texts_take_the_options_of_the_base(rt: HostRuntime) -> Result<(), Fail> {
+    let alloc = rt.alloc();
+    let small = u6::new(43).ok_or("43")?;
+    assert_eq!(rt;
+        format!(in alloc;
+            "{small:4}|{small:<4}|{small:^4}|{small:*>4}|{small:04}|{small:+}|{small:#?}"
+        )?.as_str(),
+        "  43|43  | 43 |**43|0043|+43|43"
+    );
+    assert_eq!(rt;
+        format!(in alloc; "{small:#x} {small:#X} {small:#o} {small:#b}")?.as_str(),
+        "0x2b 0x2B 0o53 0b101011"
+    );
+    // a width of 10, and of 10 with zeros behind what tells the base
+    assert_eq!(rt;
+        format!(in alloc; "{small:10x}|{small:10X}|{small:10o}|{small:10b}")?.as_str(),
+        "        2b|        2B|        53|    101011"
+    );
+    assert_eq!(rt;
+        format!(in alloc; "{small:#010x}|{small:#010X}|{small:#010o}|{small:#010b}")?.as_str(),
+        "0x0000002b|0x0000002B|0o00000053|0b00101011"
+    );
+    // 2^66 + 5, through the traits
+    let wide = u100::new(0x4_0000_0000_0000_0005).ok_or("wide")?;
+    assert_eq!(rt;
+        format!(in alloc; "{wide:24}")?.as_str(),
+        "    73786976294838206469"
+    );
+    assert_eq!(rt;
+        format!(in alloc; "{:#022}", Shown::LowerHex(wide))?.as_str(),
+        "0x00040000000000000005"
+    );
+    assert_eq!(rt;
+        format!(in alloc; "{:#}", Shown::UpperHex(wide))?.as_str(),
+        "0x40000000000000005"
+    );
+    assert_eq!(rt;
+        format!(in alloc; "{:26}", Shown::Octal(wide))?.as_str(),
+        "   10000000000000000000005"
+    );
+    assert_eq!(rt;
+        format!(in alloc; "{:#}", Shown::Binary(small))?.as_str(),
+        "0b101011"
+    );
+    Ok(())
+}

@@ -91,3 +91,26 @@ impl<T: PartialEq> PartialEq for Items<T> {
 impl<T: Eq> Eq for Items<T> {
     ghost laws = { lists_equiv T.Eq.laws };
 }
+
+#[cfg(test)]
+mod tests {
+    use super::*;
+    use std::test::Fail;
+
+    #[test]
+    fn the_last_item_is_taken_first(rt: HostRuntime) -> Result<(), Fail> {
+        let mut items = Items::new(rt.alloc());
+        assert_eq!(rt; items.pop(), None);
+        items.push(7)?;
+        items.push(8)?;
+        assert_eq!(rt; items.as_slice(), [7, 8].as_slice());
+        assert_eq!(rt;
+            (items.pop(), items.pop(), items.pop()),
+            (Some(8), Some(7), None)
+        );
+        items.push(9)?;
+        assert!(rt; items == Items::from_slice(rt.alloc(), &[9])?);
+        assert!(rt; items != Items::from_slice(rt.alloc(), &[9, 9])?);
+        Ok(())
+    }
+}

@@ -72,3 +72,28 @@ impl Hash for Text {
         self.as_str().hash(state);
     }
 }
+
+#[cfg(test)]
+mod tests {
+    use super::*;
+    use std::hash::DefaultHasher;
+    use std::test::Fail;
+
+    fn hash_of<T: Hash>(value: &T) -> u64 {
+        let mut state = DefaultHasher::new();
+        value.hash(&mut state);
+        state.finish()
+    }
+
+    #[test]
+    fn texts_compare_and_hash_as_their_bytes(rt: HostRuntime) -> Result<(), Fail> {
+        let text = Text::new(rt.alloc(), "u8")?;
+        assert_eq!(rt; text.as_str().as_bytes(), [0x75, 0x38].as_slice());
+        for (other, is_equal) in [("u8", true), ("U8", false), ("u", false), ("u88", false)] {
+            let other = Text::new(rt.alloc(), other)?;
+            assert_eq!(rt; text == other, is_equal, "{other:?}");
+        }
+        assert_eq!(rt; hash_of(&text), hash_of(&"u8"));
+        Ok(())
+    }
+}
