@@ -1,4 +1,4 @@
-ghost use Rattle.std.specs.Prelude.{◌≡◌, length};
+ghost use Rattle.std.specs.Prelude.{◌≡◌, ◌≤◌, length};
 ghost use Rattle.abi_det.specs.State.{IsCovered};
 
 use crate::{
@@ -149,7 +149,9 @@ fn told(alloc: Global, p: &Placement, size: u64) -> Result<String, AllocError> {
 }
 
 /// What a placement of the two is: sizes and offsets in bytes, and what is free and refused.
-fn placed(alloc: Global, ok: &Layout, err: &Layout, p: &Placement) -> Result<String, Fail> {
+fn placed(alloc: Global, ok: &Layout, err: &Layout, p: &Placement) -> Result<String, Fail>
+    requires { p.now.front ≤ 65536 }
+{
     let size = sum_size(ok, err, p);
     let text = told(alloc, p, size)?;
     Ok(text)
@@ -390,6 +392,7 @@ fn an_empty_variant_takes_the_head_or_the_first_pattern(rt: HostRuntime) -> Resu
         let p = placement_by(rt.alloc(), rules, &ok, &err)?;
         let told = placed(rt.alloc(), &ok, &err, &p)?;
         assert_eq!(rt; told.as_str(), row);
+        assert!(rt; sum_size(&ok, &err, &p) == 8);
         let sum = sum_layout(rt.alloc(), &ok, &err, &p)?;
         assert_eq!(rt; (sum.size(), sum.unused().byte_at(5)), (8, left));
     }
