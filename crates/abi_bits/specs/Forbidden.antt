@@ -1,7 +1,7 @@
 -- Forbidden values as a list of items from left to right, and what the leftmost leaf offers.
 use Rattle.std.specs.Prelude.{ℕ, ◌+◌, List, [], ◌∷◌, ◌++◌, Bool, true, false, ◌&&◌, nat_le, nat_lt, ◌==◌, Option, Some, None, IsTrue, map}
 use Rattle.std.specs.List.{list_all}
-use Rattle.abi_bits.specs.Pairs.{Pair, is_matched, moved_pairs, are_below}
+use Rattle.abi_bits.specs.Pairs.{Pair, is_matched, moved_pairs, are_below, max_size}
 use Rattle.abi_bits.specs.Mask.{mask_at}
 use Rattle.abi_bits.specs.declared.forbidden_values.ForbiddenValues.{ForbiddenValues, fold-ForbiddenValues}
 use Rattle.abi_bits.specs.declared.forbidden_values.ForbiddenValues.TheOpen.{ForbiddenValues-F}
@@ -41,7 +41,7 @@ is_ranged (range at least greatest) = nat_lt least greatest
 
 -- what a type's forbidden values keep where they stand in a layout: bytes below the greatest size, and ranges that rise
 abbrev pub are_sound : List Item → Bool
-are_sound its = are_items_below 1048576 its && list_all is_ranged its
+are_sound its = are_items_below max_size its && list_all is_ranged its
 
 abbrev pub AreSound : List Item → Type 0
 AreSound its = IsTrue (are_sound its)

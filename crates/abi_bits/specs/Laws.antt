@@ -1,6 +1,6 @@
 -- Laws of sets of bits and of niche counts.
 use Rattle.std.specs.Prelude.{◌≡◌, ◌↔◌, ℕ, ◌/◌, ◌%◌, ◌^◌, Some, ◌<◌, ◌≤◌, List, true, nat_lt, if◌then◌else◌}
-use Rattle.abi_bits.specs.Pairs.{Pair, are_below}
+use Rattle.abi_bits.specs.Pairs.{Pair, are_below, max_size}
 use Rattle.abi_bits.specs.Mask.{mask_at, Has, IsMask, IsLeast, least_bit, entries_below}
 
 -- sets with the same bytes have the same entries
@@ -9,14 +9,14 @@ SameBytes = (es fs : List Pair) → IsMask es → IsMask fs → ((at : ℕ) → 
 
 -- a set is what its bytes tell
 abbrev pub FromBytes : Type 0
-FromBytes = (es : List Pair) (n : ℕ) → IsMask es → are_below n es ≡ true → n ≤ 1048576 → es ≡ entries_below (mask_at es) n
+FromBytes = (es : List Pair) (n : ℕ) → IsMask es → are_below n es ≡ true → n ≤ max_size → es ≡ entries_below (mask_at es) n
 
 -- what a function tells of the bytes below n is what the set has there, and it has nothing from n on
 abbrev pub EntriesAt : Type 0
 EntriesAt = (f : ℕ → ℕ) (n at : ℕ) → mask_at (entries_below f n) at ≡ (if nat_lt at n then f at else 0)
 
 abbrev pub EntriesAreMask : Type 0
-EntriesAreMask = (f : ℕ → ℕ) (n : ℕ) → n ≤ 1048576 → ((at : ℕ) → f at < 256) → IsMask (entries_below f n)
+EntriesAreMask = (f : ℕ → ℕ) (n : ℕ) → n ≤ max_size → ((at : ℕ) → f at < 256) → IsMask (entries_below f n)
 
 abbrev pub EntriesLieBelow : Type 0
 EntriesLieBelow = (f : ℕ → ℕ) (n : ℕ) → are_below n (entries_below f n) ≡ true

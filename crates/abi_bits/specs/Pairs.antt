@@ -5,10 +5,14 @@ use Rattle.std.specs.List.{list_all}
 abbrev pub Pair : Type 0
 Pair = ℕ × ℕ
 
+-- the greatest size of anything laid out, in bytes
+abbrev pub max_size : ℕ
+max_size = 1048576
+
 -- the offsets rise from `least` on, and lie below the greatest size
 abbrev pub are_rising : ℕ → List Pair → Bool
 are_rising least [] = true
-are_rising least (p ∷ ps) = nat_le least p.0 && nat_lt p.0 1048576 && are_rising (p.0 + 1) ps
+are_rising least (p ∷ ps) = nat_le least p.0 && nat_lt p.0 max_size && are_rising (p.0 + 1) ps
 
 abbrev pub is_empty : List Pair → Bool
 is_empty [] = true
@@ -39,5 +43,5 @@ are_below n ps = list_all (λ p. nat_lt p.0 n) ps
 
 -- the offset of the first pair; the greatest size where there is none
 abbrev pub first_offset : List Pair → ℕ
-first_offset [] = 1048576
+first_offset [] = max_size
 first_offset (p ∷ ps) = p.0

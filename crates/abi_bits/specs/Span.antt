@@ -1,6 +1,6 @@
 -- Bytes that stand in a row from an offset on.
 use Rattle.std.specs.Prelude.{ℕ, ◌+◌, ◌-◌, ◌<◌, ◌≤◌, List, [], ◌∷◌, Option, Some, None, nat_le, length, slice_index, if◌then◌else◌}
-use Rattle.abi_bits.specs.Pairs.{Pair}
+use Rattle.abi_bits.specs.Pairs.{Pair, max_size}
 use Rattle.abi_bits.specs.Mask.{IsMask, entries_below}
 
 -- the byte at an offset, among bytes of which the first stands at `start`; 0 where none stands
@@ -13,7 +13,7 @@ entries_in start bytes = entries_below (byte_in start bytes) (start + length byt
 
 -- bytes from `start` on that lie below the greatest size, and of which the first and the last have a bit
 pub record IsSpan (start : ℕ) (bytes : List ℕ) : Type 0 where
-  pub within : start + length bytes ≤ 1048576
+  pub within : start + length bytes ≤ max_size
   pub mask : IsMask (entries_in start bytes)
   pub first : 0 < length bytes → 0 < slice_index bytes 0
   pub last : 0 < length bytes → 0 < slice_index bytes (length bytes - 1)

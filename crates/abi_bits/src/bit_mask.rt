@@ -136,7 +136,7 @@ impl BitMask {
     /// Adds the bits `mask` at the byte at offset `at`, which lies past every byte of the set.
     pub fn push_byte(&mut self, at: u64, mask: u8) -> Result<(), OutOfMemory>
         requires above { IsTrue (are_below at self.old) }
-        requires within { at < 1048576 }
+        requires within { at < MAX_SIZE }
         ensures valid { IsMask self.new }
         ensures ok { OnOk result (self.new ≡ self.old ++ (if mask == 0 then [] else (at, mask) ∷ [])) }
         ensures err { OnErr result (self.new ≡ self.old) }
@@ -151,7 +151,7 @@ impl BitMask {
 
     /// All bits of the `count` bytes from the offset `from` on.
     pub fn padding(alloc: Global, from: u64, count: u64) -> Result<BitMask, OutOfMemory>
-        requires { from + count ≤ 1048576 }
+        requires { from + count ≤ MAX_SIZE }
         ensures valid { IfOk result (λ mask. IsMask mask) }
         ensures bytes { IfOk result (λ mask. (at : ℕ) → mask_at mask at ≡ full_between from (from + count) at) }
         ensures bits { IfOk result (λ mask. (n : ℕ) → Has mask n ↔ ((8 * from ≤ n) × (n < 8 * (from + count)))) }
@@ -187,7 +187,7 @@ impl BitMask {
 
     /// The same bits, `by` bytes further on.
     pub fn shift(&self, alloc: Global, by: u64) -> Result<BitMask, OutOfMemory>
-        requires { IsTrue (are_below 1048576 (moved_pairs by self.now)) }
+        requires { IsTrue (are_below MAX_SIZE (moved_pairs by self.now)) }
         ensures same { IfOk result (λ mask. mask ≡ moved_pairs by self.now) }
         ensures valid { IfOk result (λ mask. IsMask mask) }
         ensures bytes { IfOk result (λ mask. (at : ℕ) → mask_at mask at ≡ (if nat_le by at then mask_at self.now (at - by) else 0)) }
@@ -203,7 +203,7 @@ impl BitMask {
     /// set. Takes as long as `other` has bytes.
     pub fn with_moved(self, other: &BitMask, by: u64) -> Result<BitMask, OutOfMemory>
         requires above { IsTrue (are_below by self) }
-        requires within { IsTrue (are_below 1048576 (moved_pairs by other.now)) }
+        requires within { IsTrue (are_below MAX_SIZE (moved_pairs by other.now)) }
         ensures same { IfOk result (λ mask. mask ≡ self ++ moved_pairs by other.now) }
         ensures valid { IfOk result (λ mask. IsMask mask) }
         ensures bytes { IfOk result (λ mask. (at : ℕ) → mask_at mask at ≡ bit_or (mask_at self at) (if nat_le by at then mask_at other.now (at - by) else 0)) }

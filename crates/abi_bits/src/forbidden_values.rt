@@ -152,7 +152,7 @@ impl ForbiddenValues {
 
     /// The same values, `by` bytes further on.
     pub fn shift(&self, alloc: Global, by: u64) -> Result<ForbiddenValues, OutOfMemory>
-        requires { IsTrue (are_items_below 1048576 (map (moved_item by) (items self.now))) }
+        requires { IsTrue (are_items_below MAX_SIZE (map (moved_item by) (items self.now))) }
         ensures items { IfOk result (λ moved. items moved ≡ map (moved_item by) (items self.now)) }
         ensures head { IfOk result (λ moved. head moved ≡ option_map (moved_pairs by) (head self.now)) }
         ensures nothing { IfOk result (λ moved. is_nothing moved ≡ is_nothing self.now) }

@@ -34,7 +34,7 @@ pub(crate) fn are_below(pairs: &[(u64, u8)], size: u64) -> bool
 
 /// The same pairs, `by` bytes further on.
 pub(crate) fn moved(alloc: Global, pairs: &[(u64, u8)], by: u64) -> Result<Pairs, OutOfMemory>
-    requires { IsTrue (are_below 1048576 (moved_pairs by pairs.now)) }
+    requires { IsTrue (are_below MAX_SIZE (moved_pairs by pairs.now)) }
     ensures { IfOk result (λ moved. moved ≡ moved_pairs by pairs.now) }
 {
     let mut moved = Items::new(alloc);

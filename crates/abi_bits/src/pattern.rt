@@ -1,8 +1,8 @@
 ghost use Rattle.std.specs.Prelude.{◌≡◌, ◌↔◌, ◌<◌, [], ◌∷◌, IsTrue, IsSome, IfSome, IfOk};
 ghost use Rattle.abi_bits.specs.Pairs.{is_pattern, IsPattern, are_below, moved_pairs, first_offset};
 
-use crate::Pairs;
 use crate::pairs::{are_rising, moved, with_front};
+use crate::{MAX_SIZE, Pairs};
 use abi_num::{Items, OutOfMemory};
 use std::alloc::Global;
 use std::marker::Model;
@@ -49,7 +49,7 @@ impl Pattern {
 
     /// The pattern of one byte.
     pub(crate) fn of_byte(alloc: Global, offset: u64, byte: u8) -> Result<Pattern, OutOfMemory>
-        requires { offset < 1048576 }
+        requires { offset < MAX_SIZE }
         ensures { IfOk result (λ pattern. pattern ≡ (offset, byte) ∷ []) }
     {
         let pairs = Items::from_slice(alloc, &[(offset, byte)])?;
@@ -73,7 +73,7 @@ impl Pattern {
     /// The pattern `by` bytes further on.
     #[tactic(auto, using(crate::proofs::Sets::moved_is_pattern))]
     pub fn moved(&self, alloc: Global, by: u64) -> Result<Pattern, OutOfMemory>
-        requires { IsTrue (are_below 1048576 (moved_pairs by self.now)) }
+        requires { IsTrue (are_below MAX_SIZE (moved_pairs by self.now)) }
         ensures { IfOk result (λ pattern. pattern ≡ moved_pairs by self.now) }
     {
         let pairs = moved(alloc, self.pairs.as_slice(), by)?;

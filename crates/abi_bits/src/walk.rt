@@ -19,13 +19,15 @@ pub struct Walk<'a> {
 impl<'a> Model for Walk<'a> {
     ghost use Rattle.std.specs.Prelude.{List, ℕ, ◌+◌, ◌≤◌, length};
     ghost use Rattle.abi_bits.specs.Mask.{IsMask};
+    ghost use Rattle.abi_bits.specs.Pairs.{max_size};
     ghost use Rattle.abi_bits.specs.Span.{entries_in};
 
     ghost Value = { List (ℕ × ℕ) };
 
     ghost view = { λ w. entries_in w.start w.rest.now };
 
-    ghost invariant = { λ w. (w.start + length w.rest.now ≤ 1048576) × IsMask (entries_in w.start w.rest.now) };
+    ghost invariant = { λ w. (w.start + length w.rest.now ≤ max_size)
+        × IsMask (entries_in w.start w.rest.now) };
 }
 
 impl<'a> Walk<'a> {

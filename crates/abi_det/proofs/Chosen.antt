@@ -8,16 +8,16 @@ use Rattle.abi_bits.proofs.Entries.{entries_are_mask}
 use Rattle.abi_det.specs.Frame.{Frame}
 use Rattle.abi_det.specs.Roles.{spare_byte, union_size, larger, smaller, ok_is_larger, sum_align}
 use Rattle.abi_det.specs.Offers.{Rules, Niche, first_offer}
-use Rattle.abi_det.specs.Written.{without, beside_tag, placed, written_placement, written_sum}
+use Rattle.abi_det.specs.Written.{without, beside_tag, placement_of, written_placement, written_sum}
 use Rattle.abi_det.specs.Niches.{IsNiche, IsFirstBelow, taken, OffersNone}
-use Rattle.abi_det.specs.Owed.{IsTest, IsOwed}
-use Rattle.abi_det.specs.Laws.{PlaceLaw, PlacementLaw, SoundSumLaw, SizeLaw}
+use Rattle.abi_det.specs.SoundPlacement.{IsTest, IsSoundPlacement}
+use Rattle.abi_det.specs.Laws.{PlaceLaw, PlacementLaw, WellFormedSumLaw, SizeLaw}
 use Rattle.abi_det.specs.declared.placements.Kind.{Kind}
 use Rattle.abi_det.specs.declared.placements.Kind.TheVariants as kind
 use Rattle.abi_det.specs.declared.determinant.Test.{Test}
 use Rattle.abi_det.specs.declared.determinant.Test.TheVariants as test
 use Rattle.abi_det.proofs.Niches.{search_first, spare_small}
-use Rattle.abi_det.proofs.Owed.{pick, owed}
+use Rattle.abi_det.proofs.SoundPlacements.{pick, placements_sound}
 use Rattle.abi_det.proofs.Sizes.{sum_alignment, alignment_parts, union_small}
 use Rattle.abi_det.proofs.Sums.{lawful_sum}
 
@@ -32,14 +32,14 @@ place_below small size k place = elim (cases_eq small.size 0) [
 ]
 
 taken_niche : (rules : Rules) (ok err : Frame) (k n : ℕ) (a : Kind) (t : Test) → IsNiche rules (larger ok err) (smaller ok err) (union_size ok err) k a n t
-    → taken (placed ok err (Some (k, record { kind = a; test = t }))) ≡ Some (k, record { kind = a; test = t })
+    → taken (placement_of ok err (Some (k, record { kind = a; test = t }))) ≡ Some (k, record { kind = a; test = t })
 taken_niche rules ok err k n kind.SmallerPattern t is = refl
 taken_niche rules ok err k n kind.LargerPattern t is = refl
 taken_niche rules ok err k n kind.SharedBit t is = refl
 taken_niche rules ok err k n kind.Tag t is = absurd is
 
 -- what a placement takes is what the search found
-pub taken_found : (rules : Rules) (ok err : Frame) (o : Option (ℕ × Niche)) → IsFirstBelow rules (larger ok err) (smaller ok err) (union_size ok err) 8 o → taken (placed ok err o) ≡ o
+pub taken_found : (rules : Rules) (ok err : Frame) (o : Option (ℕ × Niche)) → IsFirstBelow rules (larger ok err) (smaller ok err) (union_size ok err) 8 o → taken (placement_of ok err o) ≡ o
 taken_found rules ok err None f = refl
 taken_found rules ok err (Some found) f = taken_niche rules ok err found.0 f.2.0 found.1.kind found.1.test f.2.1
 
@@ -61,8 +61,8 @@ sum_size rules ok err mo me =
     by_search (first_offer rules (larger ok err) (smaller ok err) (union_size ok err) 8) (search_of rules ok err mo me)
   where
     by_search : (o : Option (ℕ × Niche)) → IsFirstBelow rules (larger ok err) (smaller ok err) (union_size ok err) 8 o
-        → (OffersNone rules (larger ok err) (smaller ok err) (union_size ok err) 8 → union_size ok err + (placed ok err o).front ≡ union_size ok err + sum_align ok err)
-        × ((OffersNone rules (larger ok err) (smaller ok err) (union_size ok err) 8 → ⊥) → union_size ok err + (placed ok err o).front ≡ union_size ok err)
+        → (OffersNone rules (larger ok err) (smaller ok err) (union_size ok err) 8 → union_size ok err + (placement_of ok err o).front ≡ union_size ok err + sum_align ok err)
+        × ((OffersNone rules (larger ok err) (smaller ok err) (union_size ok err) 8 → ⊥) → union_size ok err + (placement_of ok err o).front ≡ union_size ok err)
     by_search None none = (λ is. refl, λ some. absurd (some none))
     by_search (Some found) f = (λ none. absurd (none found.0 f.0 f.1 found.1.kind f.2.0 found.1.test f.2.1), λ some. add-zero (union_size ok err))
 
@@ -81,17 +81,17 @@ beside_byte at = by_test (eqb at 0)
     by_test true = omega arith
     by_test false = omega arith
 
-pub sound_sum : SoundSumLaw
+pub sound_sum : WellFormedSumLaw
 unfolding written_sum written_placement
 sound_sum rules ok err so se small = record {
   lawful = lawful_sum rules ok err so.lawful se.lawful small;
-  mask = exported_mask (first_offer rules (larger ok err) (smaller ok err) (union_size ok err) 8) (owed rules ok err so se);
+  mask = exported_mask (first_offer rules (larger ok err) (smaller ok err) (union_size ok err) 8) (placements_sound rules ok err so se);
   patterns = refl;
   bytes = refl;
   leads = λ ps is. absurd (cc);
 }
   where
-    exported_mask : (o : Option (ℕ × Niche)) → IsOwed ok err (placed ok err o) → IsMask (placed ok err o).exported
+    exported_mask : (o : Option (ℕ × Niche)) → IsSoundPlacement ok err (placement_of ok err o) → IsMask (placement_of ok err o).exported
     exported_mask None is =
         let al = alignment_parts (sum_align ok err) (sum_alignment ok err so.lawful se.lawful) in
         entries_are_mask beside_tag (sum_align ok err) (omega (arith, al.0)) beside_byte

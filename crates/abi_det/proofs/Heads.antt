@@ -7,7 +7,7 @@ use Rattle.abi_bits.specs.Mask.{IsMask}
 use Rattle.abi_bits.specs.Forbidden.{Item, items, items_step, head, head_step, offer, offered}
 use Rattle.abi_det.specs.Frame.{Frame, IsLawful}
 use Rattle.abi_det.specs.Offers.{first_of}
-use Rattle.abi_det.specs.Owed.{IsSound}
+use Rattle.abi_det.specs.SoundPlacement.{IsWellFormed}
 use Rattle.abi_det.specs.Laws.{HeadLaw}
 use Rattle.abi_bits.specs.declared.forbidden_values.ForbiddenValues.{ForbiddenValues, ind-ForbiddenValues}
 use Rattle.abi_bits.specs.declared.forbidden_values.ForbiddenValues.TheOpen.{ForbiddenValues-F}
@@ -61,9 +61,9 @@ leads = ind-ForbiddenValues Leads (λ x y e.
 pub head_leads : HeadLaw
 head_leads v ps is = let l = leads v ps is in ap first_of l.1
 
--- a lawful frame with the items and the head of forbidden values is sound
+-- a lawful frame with the items and the head of forbidden values is well-formed
 pub frame_sound : (f : Frame) (v : ForbiddenValues) (pss : List (List Pair)) → IsLawful f → IsMask f.free → items v ≡ f.forbids → head v ≡ f.head → pss ≡ offered (items v)
-    → list_all is_pattern pss ≡ true → list_all are_bytes pss ≡ true → IsSound f
+    → list_all is_pattern pss ≡ true → list_all are_bytes pss ≡ true → IsWellFormed f
 frame_sound f v pss lawful mask its hd is patterns bytes = record {
   lawful = lawful;
   mask = mask;

@@ -1,6 +1,6 @@
 pub mod Blocking
 pub mod Chosen
-pub mod Carrying
+pub mod Imposing
 pub mod Entries
 pub mod Exporting
 pub mod FirstBytes
@@ -9,7 +9,7 @@ pub mod Lawful
 pub mod Moving
 pub mod Next
 pub mod Niches
-pub mod Owed
+pub mod SoundPlacements
 pub mod Patterns
 pub mod Places
 pub mod Refused

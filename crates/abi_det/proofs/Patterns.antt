@@ -10,7 +10,8 @@ use Rattle.abi_bits.specs.Mask.{mask_at}
 use Rattle.abi_bits.specs.Forbidden.{Item, pattern, range, offer, offered, is_match, is_solid_byte, is_solid_item}
 use Rattle.abi_det.specs.Frame.{Frame}
 use Rattle.abi_det.specs.Roles.{lies_free}
-use Rattle.abi_det.specs.Owed.{are_bytes, IsSound, from, is_free_at}
+use Rattle.abi_det.specs.State.{seen_from}
+use Rattle.abi_det.specs.SoundPlacement.{are_bytes, IsWellFormed, is_free_at}
 use Rattle.abi_bits.proofs.Sets.{moved_is_pattern, moved_below}
 use Rattle.abi_det.proofs.Lawful.{parts, bytes_in}
 
@@ -65,11 +66,11 @@ not_free f shift at k q place lt none =
     rw (t, u, v, w) refl
 
 -- a pattern is matched further on where it is matched by what is seen from there
-moved_match : (shift : ℕ) (ps : List Pair) (image : ℕ → ℕ) → is_matched (moved_pairs shift ps) image ≡ true → is_matched ps (from shift image) ≡ true
+moved_match : (shift : ℕ) (ps : List Pair) (image : ℕ → ℕ) → is_matched (moved_pairs shift ps) image ≡ true → is_matched ps (seen_from shift image) ≡ true
 moved_match shift [] image m = refl
 moved_match shift (p ∷ ps) image m =
     let a = and_parts (eqb (image (p.0 + shift)) p.1) (is_matched (moved_pairs shift ps) image) m in
-    and_from (eqb (from shift image p.0) p.1) (is_matched ps (from shift image))
+    and_from (eqb (seen_from shift image p.0) p.1) (is_matched ps (seen_from shift image))
     (subst (λ (x : ℕ). eqb (image x) p.1 ≡ true) (add_comm p.0 shift) a.0) (moved_match shift ps image a.1)
 
 offer_match : (size : ℕ) (free : List Pair) (it : Item) (image : ℕ → ℕ) → is_solid_item size free it ≡ true → is_matched (offer it) image ≡ true → is_match image it ≡ true
@@ -98,7 +99,7 @@ moved_bytes shift (p ∷ ps) h =
     and_from (ltb p.1 256) (are_bytes (moved_pairs shift ps)) a.0 (moved_bytes shift ps a.1)
 
 -- pattern number n that the frame offers, at the variant's place
-module _ (f : Frame) (sound : IsSound f) (shift n : ℕ) (there : n < length (offered f.forbids)) where
+module _ (f : Frame) (sound : IsWellFormed f) (shift n : ℕ) (there : n < length (offered f.forbids)) where
   abbrev pub moved : List Pair
   moved = moved_pairs shift (get_or (offered f.forbids) n [])
 
@@ -111,9 +112,9 @@ module _ (f : Frame) (sound : IsSound f) (shift n : ℕ) (there : n < length (of
       let q = solid_named f.size f.free shift at (get_or (offered f.forbids) n []) solid named in
       not_free f shift at k q.0 q.1 q.2 q.3
 
-  pub pattern_forbidden : (image : ℕ → ℕ) → is_matched moved image ≡ true → list_any (is_match (from shift image)) f.forbids ≡ true
+  pub pattern_forbidden : (image : ℕ → ℕ) → is_matched moved image ≡ true → list_any (is_match (seen_from shift image)) f.forbids ≡ true
   pattern_forbidden image m =
-      offered_match f.size f.free f.forbids n (from shift image) (parts f sound.lawful).solid there (moved_match shift (get_or (offered f.forbids) n []) image m)
+      offered_match f.size f.free f.forbids n (seen_from shift image) (parts f sound.lawful).solid there (moved_match shift (get_or (offered f.forbids) n []) image m)
 
   pub pattern_in : (size : ℕ) → shift + f.size ≤ size → size ≤ 1048576 → IsPattern moved × (are_below size moved ≡ true) × (are_bytes moved ≡ true)
   pattern_in size inside small =

@@ -10,7 +10,7 @@ use Rattle.abi_bits.specs.Forbidden.{offered}
 use Rattle.abi_det.specs.Frame.{Frame}
 use Rattle.abi_det.specs.Roles.{union_byte, lies_free, is_place, union_size, larger, smaller, ok_is_larger}
 use Rattle.abi_det.specs.Offers.{Rules, Niche, leading_pattern, shared_bit, by_bit, first_offer}
-use Rattle.abi_det.specs.Written.{first_blocking, refusal_at, refusals_below, is_blocking, are_blocking, is_none_named, refuses, placed, written_placement}
+use Rattle.abi_det.specs.Written.{first_blocking, refusal_at, refusals_below, is_blocking, are_blocking, is_none_named, refuses, placement_of, written_placement}
 use Rattle.abi_det.specs.Niches.{IsLeading, IsNiche, OffersNone, IsFirstBelow}
 use Rattle.abi_det.specs.Refusals.{AllRefuse, places_rise, AreComplete, IsFirstBlocking}
 use Rattle.abi_det.specs.Laws.{RefusedLaw, RefusalsLaw, BlockingLaw}
@@ -20,7 +20,7 @@ use Rattle.abi_det.specs.declared.placements.Kind.TheVariants as kind
 use Rattle.abi_det.specs.declared.determinant.Test.{Test}
 use Rattle.abi_det.specs.declared.determinant.Test.TheVariants as test
 use Rattle.abi_det.proofs.Niches.{IsFirst, wrap_bit}
-use Rattle.abi_det.proofs.Owed.{pick}
+use Rattle.abi_det.proofs.SoundPlacements.{pick}
 use Rattle.abi_det.proofs.Patterns.{free_named}
 use Rattle.abi_det.proofs.Chosen.{place_below, search_of}
 
@@ -311,7 +311,7 @@ refused rules ok err mo me =
     by_search (first_offer rules (larger ok err) (smaller ok err) (union_size ok err) 8) (search_of rules ok err mo me)
   where
     by_search : (o : Option (ℕ × Niche)) → IsFirstBelow rules (larger ok err) (smaller ok err) (union_size ok err) 8 o
-        → ((placed ok err o).kind ≡ kind.Tag) ↔ AllRefuse rules ok err
+        → ((placement_of ok err o).kind ≡ kind.Tag) ↔ AllRefuse rules ok err
     by_search None none = (
       λ is k place. (
         refusal_at (larger ok err) (smaller ok err) (union_size ok err) k,
@@ -334,7 +334,7 @@ complete rules ok err mo me =
     by_search (first_offer rules (larger ok err) (smaller ok err) (union_size ok err) 8) (search_of rules ok err mo me)
   where
     by_search : (o : Option (ℕ × Niche)) → IsFirstBelow rules (larger ok err) (smaller ok err) (union_size ok err) 8 o
-        → ((placed ok err o).kind ≡ kind.Tag → AreComplete rules ok err (placed ok err o).refusals) × ((placed ok err o).kind ≢ kind.Tag → (placed ok err o).refusals ≡ [])
+        → ((placement_of ok err o).kind ≡ kind.Tag → AreComplete rules ok err (placement_of ok err o).refusals) × ((placement_of ok err o).kind ≢ kind.Tag → (placement_of ok err o).refusals ≡ [])
     by_search None none =
         let m = any_larger ok err mo me in
         let u = union_size ok err in

@@ -7,8 +7,8 @@ use Rattle.abi_bits.specs.declared.saturating_add_value.SaturatingAddValue.TheVa
 use Rattle.abi_det.specs.Frame.{Frame}
 use Rattle.abi_det.specs.Offers.{One}
 use Rattle.abi_det.specs.Written.{written_placement}
-use Rattle.abi_det.specs.Owed.{IsSound, IsOwed}
-use Rattle.abi_det.proofs.Owed.{owed}
+use Rattle.abi_det.specs.SoundPlacement.{IsWellFormed, IsSoundPlacement}
+use Rattle.abi_det.proofs.SoundPlacements.{placements_sound}
 
 abbrev bool_frame : Frame
 bool_frame = record { size = 1; align = 1; free = []; forbids = range 0 2 255 ∷ []; head = Some ((0, 2) ∷ []); niches = counts.Saturator; indirections = false }
@@ -19,11 +19,11 @@ unit_frame = record { size = 0; align = 1; free = []; forbids = []; head = None;
 one_bit : ones 1 ≡ 1
 one_bit = omega (arith, ones_step 1, ones_le_self 0)
 
-bool_sound : IsSound bool_frame
-bool_sound = record { lawful = rw one_bit refl; mask = refl; patterns = refl; bytes = refl; leads = λ ps is. is }
+bool_well_formed : IsWellFormed bool_frame
+bool_well_formed = record { lawful = rw one_bit refl; mask = refl; patterns = refl; bytes = refl; leads = λ ps is. is }
 
-unit_sound : IsSound unit_frame
-unit_sound = record { lawful = rw one_bit refl; mask = refl; patterns = refl; bytes = refl; leads = λ ps is. is }
+unit_well_formed : IsWellFormed unit_frame
+unit_well_formed = record { lawful = rw one_bit refl; mask = refl; patterns = refl; bytes = refl; leads = λ ps is. is }
 
-option_owed : IsOwed bool_frame unit_frame (written_placement One bool_frame unit_frame)
-option_owed = owed One bool_frame unit_frame bool_sound unit_sound
+option_sound : IsSoundPlacement bool_frame unit_frame (written_placement One bool_frame unit_frame)
+option_sound = placements_sound One bool_frame unit_frame bool_well_formed unit_well_formed

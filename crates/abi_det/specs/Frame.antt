@@ -2,7 +2,7 @@
 use Rattle.std.specs.Prelude.{ℕ, ◌%◌, List, Bool, ◌&&◌, nat_le, ◌==◌, IsTrue, Option}
 use Rattle.std.specs.List.{list_all}
 use Rattle.abi_num.specs.Alignment.{is_alignment}
-use Rattle.abi_bits.specs.Pairs.{Pair, are_below}
+use Rattle.abi_bits.specs.Pairs.{Pair, are_below, max_size}
 use Rattle.abi_bits.specs.Forbidden.{Item, is_solid_item}
 use Rattle.abi_bits.specs.declared.saturating_add_value.SaturatingAddValue.{SaturatingAddValue}
 
@@ -22,7 +22,7 @@ pub record Frame : Type 0 where
 -- the rule of lawful layouts
 abbrev pub is_lawful : Frame → Bool
 is_lawful f =
-    is_alignment f.align && nat_le f.size 1048576 && f.size % f.align == 0
+    is_alignment f.align && nat_le f.size max_size && f.size % f.align == 0
     && are_below f.size f.free && list_all (is_solid_item f.size f.free) f.forbids
 
 abbrev pub IsLawful : Frame → Type 0

@@ -1,6 +1,6 @@
 -- Laws over the definitions of sums, each in the words of its subject.
 use Rattle.std.specs.Prelude.{◌≡◌, ◌≢◌, ◌↔◌, ℕ, ◌+◌, ◌%◌, ◌<◌, ◌≤◌, List, [], true, false, Some}
-use Rattle.abi_bits.specs.Pairs.{Pair}
+use Rattle.abi_bits.specs.Pairs.{Pair, max_size}
 use Rattle.abi_bits.specs.Mask.{IsMask}
 use Rattle.abi_bits.specs.Forbidden.{items, head, offered}
 use Rattle.abi_bits.specs.declared.forbidden_values.ForbiddenValues.{ForbiddenValues}
@@ -10,29 +10,29 @@ use Rattle.abi_det.specs.Offers.{Rules, first_of}
 use Rattle.abi_det.specs.Niches.{OffersNone, IsFirstBelow, taken}
 use Rattle.abi_det.specs.Refusals.{AllRefuse, AreComplete, IsFirstBlocking}
 use Rattle.abi_det.specs.Written.{first_blocking, written_placement, written_sum}
-use Rattle.abi_det.specs.Owed.{IsSound, IsOwed}
+use Rattle.abi_det.specs.SoundPlacement.{IsWellFormed, IsSoundPlacement}
 use Rattle.abi_det.specs.declared.placements.Kind.TheVariants as kind
 use Rattle.abi_det.specs.declared.placements.Placement.{Placement}
 
 -- the union of two lawful frames is no larger than a layout may be
 abbrev pub UnionLaw : Type 0
-UnionLaw = (ok err : Frame) → IsLawful ok → IsLawful err → union_size ok err ≤ 1048576
+UnionLaw = (ok err : Frame) → IsLawful ok → IsLawful err → union_size ok err ≤ max_size
 
 -- the frame of a sum is lawful
 abbrev pub LawfulSumLaw : Type 0
 LawfulSumLaw =
-    (rules : Rules) (ok err : Frame) → IsLawful ok → IsLawful err → union_size ok err + (written_placement rules ok err).front ≤ 1048576
+    (rules : Rules) (ok err : Frame) → IsLawful ok → IsLawful err → union_size ok err + (written_placement rules ok err).front ≤ max_size
     → IsLawful (written_sum rules ok err)
 
 -- and keeps what frames keep
-abbrev pub SoundSumLaw : Type 0
-SoundSumLaw =
-    (rules : Rules) (ok err : Frame) → IsSound ok → IsSound err → union_size ok err + (written_placement rules ok err).front ≤ 1048576
-    → IsSound (written_sum rules ok err)
+abbrev pub WellFormedSumLaw : Type 0
+WellFormedSumLaw =
+    (rules : Rules) (ok err : Frame) → IsWellFormed ok → IsWellFormed err → union_size ok err + (written_placement rules ok err).front ≤ max_size
+    → IsWellFormed (written_sum rules ok err)
 
--- every placement gives both variants what it owes them
-abbrev pub OwedLaw : Type 0
-OwedLaw = (rules : Rules) (ok err : Frame) → IsSound ok → IsSound err → IsOwed ok err (written_placement rules ok err)
+-- every placement is sound
+abbrev pub SoundPlacementLaw : Type 0
+SoundPlacementLaw = (rules : Rules) (ok err : Frame) → IsWellFormed ok → IsWellFormed err → IsSoundPlacement ok err (written_placement rules ok err)
 
 -- a place is one of eight
 abbrev pub PlaceLaw : Type 0

@@ -3,7 +3,7 @@ pub mod FrameOf
 pub mod Laws
 pub mod Niches
 pub mod Offers
-pub mod Owed
+pub mod SoundPlacement
 pub mod Refusals
 pub mod Roles
 pub mod Search

@@ -5,13 +5,13 @@ use Rattle.abi_bits.specs.Pairs.{Pair}
 use Rattle.abi_det.specs.Frame.{Frame}
 use Rattle.abi_det.specs.Roles.{smaller, union_size, is_place, lies_free}
 use Rattle.abi_det.specs.Offers.{Rules}
-use Rattle.abi_det.specs.Written.{holds}
+use Rattle.abi_det.specs.Written.{refusal_holds}
 use Rattle.abi_det.specs.declared.placements.Refusal.{Refusal}
 
 -- every existing place of the sum has a refusal that holds
 abbrev pub AllRefuse : Rules → Frame → Frame → Type 0
 AllRefuse rules ok err =
-    (k : ℕ) → is_place (smaller ok err) (union_size ok err) k ≡ true → (r : Refusal) × (r.place ≡ k) × (holds rules ok err r ≡ true)
+    (k : ℕ) → is_place (smaller ok err) (union_size ok err) k ≡ true → (r : Refusal) × (r.place ≡ k) × (refusal_holds rules ok err r ≡ true)
 
 -- the places rise from `least` on
 abbrev pub places_rise : ℕ → List Refusal → Bool
@@ -20,7 +20,7 @@ places_rise least (r ∷ rs) = nat_le least r.place && places_rise (r.place + 1)
 
 -- refusals that hold, one for each existing place, by rising place
 pub record AreComplete (rules : Rules) (ok err : Frame) (rs : List Refusal) : Type 0 where
-  pub hold : list_all (holds rules ok err) rs ≡ true
+  pub hold : list_all (refusal_holds rules ok err) rs ≡ true
   pub rise : places_rise 0 rs ≡ true
   pub each : (k : ℕ) → list_any (λ r. r.place == k) rs ≡ is_place (smaller ok err) (union_size ok err) k
 

@@ -1,11 +1,15 @@
 -- What a test says of an image, which tells the byte at each offset, and what its two writes leave.
-use Rattle.std.specs.Prelude.{ℕ, List, [], ◌∷◌, Bool, true, false, ◌&&◌, not, nat_lt, ◌==◌, bit_and, bit_or, slice_index, slice_set, IsTrue, if◌then◌else◌}
+use Rattle.std.specs.Prelude.{ℕ, ◌+◌, List, [], ◌∷◌, Bool, true, false, ◌&&◌, not, nat_lt, ◌==◌, bit_and, bit_or, slice_index, slice_set, IsTrue, if◌then◌else◌}
 use Rattle.std.specs.Int.{bit_at, bit_not, w8, is_power_of_two}
 use Rattle.std.specs.List.{list_any}
 use Rattle.abi_bits.specs.Pairs.{Pair, is_matched, are_below}
 use Rattle.abi_det.specs.declared.determinant.Test.{Test}
 use Rattle.abi_det.specs.declared.determinant.Test.TheVariants as test
 use Rattle.abi_det.specs.declared.determinant.Determinant.{Determinant}
+
+-- the image, counted from offset `shift` on
+abbrev pub seen_from : ℕ → (ℕ → ℕ) → ℕ → ℕ
+seen_from shift image = λ at. image (shift + at)
 
 abbrev pub test_holds : Test → (ℕ → ℕ) → Bool
 test_holds test.BitDeterminant image = bit_at (image 0) 0 == 1
@@ -46,8 +50,8 @@ abbrev pub put_bits : ℕ → ℕ → Bool → List ℕ → List ℕ
 put_bits offset mask sign xs =
     if sign then slice_set xs offset (bit_or (slice_index xs offset) mask) else slice_set xs offset (bit_and (slice_index xs offset) (bit_not w8 mask))
 
--- the bytes after the test was made to hold, or its one bit was cleared; a pattern is only ever written
-abbrev pub carry : Test → Bool → List ℕ → List ℕ
-carry test.BitDeterminant sign xs = put_bits 0 1 sign xs
-carry (test.ValueIsErr ps) sign xs = if sign then put_pairs ps xs else xs
-carry (test.BitIsErr offset mask) sign xs = put_bits offset mask sign xs
+-- the bytes after the test's truth was imposed on them: it was made to hold, or its one bit was cleared; a pattern is only ever written
+abbrev pub imposed : Test → Bool → List ℕ → List ℕ
+imposed test.BitDeterminant sign xs = put_bits 0 1 sign xs
+imposed (test.ValueIsErr ps) sign xs = if sign then put_pairs ps xs else xs
+imposed (test.BitIsErr offset mask) sign xs = put_bits offset mask sign xs

@@ -62,8 +62,8 @@ refuses rules large small size r =
     && is_none (shared_bit large small size (r.place * small.align))
 
 -- the refusal holds for the sum of the two
-abbrev pub holds : Rules → Frame → Frame → Refusal → Bool
-holds rules ok err r = refuses rules (larger ok err) (smaller ok err) (union_size ok err) r
+abbrev pub refusal_holds : Rules → Frame → Frame → Refusal → Bool
+refusal_holds rules ok err r = refuses rules (larger ok err) (smaller ok err) (union_size ok err) r
 
 -- the niche of kind 1 means the larger variant, every other and a tag of 1 the smaller
 abbrev pub means_ok : Kind → Bool → Bool
@@ -107,12 +107,12 @@ niched ok err k niche =
       refusals = [];
     }
 
-abbrev pub placed : Frame → Frame → Option (ℕ × Niche) → Placement
-placed ok err None = tagged ok err
-placed ok err (Some found) = niched ok err found.0 found.1
+abbrev pub placement_of : Frame → Frame → Option (ℕ × Niche) → Placement
+placement_of ok err None = tagged ok err
+placement_of ok err (Some found) = niched ok err found.0 found.1
 
 unfoldable pub written_placement : Rules → Frame → Frame → Placement
-written_placement rules ok err = placed ok err (first_offer rules (larger ok err) (smaller ok err) (union_size ok err) 8)
+written_placement rules ok err = placement_of ok err (first_offer rules (larger ok err) (smaller ok err) (union_size ok err) 8)
 
 -- the placement is that of the two under some rules
 abbrev pub IsPlacement : Frame → Frame → Placement → Type 0

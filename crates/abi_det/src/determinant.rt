@@ -32,7 +32,7 @@ pub enum Test {
 }
 
 impl Determinant {
-    ghost use Rattle.abi_det.specs.State.{IsCovered, is_state_ok, is_niche, carry};
+    ghost use Rattle.abi_det.specs.State.{IsCovered, is_state_ok, is_niche, imposed};
 
     /// Whether the bytes of a sum are in the variant `Ok`. They must cover the bytes that the test names,
     /// and the mask of a `BitIsErr` must have one bit.
@@ -51,17 +51,17 @@ impl Determinant {
     /// a pattern that must be absent are left alone. The condition is that of `is_det_ok`.
     pub fn ok(&self, sum: &mut [u8])
         requires { IsCovered self.now.test (length sum.old) }
-        ensures { sum.new ≡ carry self.now.test self.now.not sum.old }
+        ensures { sum.new ≡ imposed self.now.test self.now.not sum.old }
     {
-        self.test.carry(self.not, sum);
+        self.test.impose(self.not, sum);
     }
 
     /// Makes the bytes of a sum name the variant `Err`, as `ok` does for the other.
     pub fn err(&self, sum: &mut [u8])
         requires { IsCovered self.now.test (length sum.old) }
-        ensures { sum.new ≡ carry self.now.test (not self.now.not) sum.old }
+        ensures { sum.new ≡ imposed self.now.test (not self.now.not) sum.old }
     {
-        self.test.carry(!self.not, sum);
+        self.test.impose(!self.not, sum);
     }
 
     /// Whether the variant is told by bytes that a variant leaves unused, and not by a tag.
@@ -84,7 +84,7 @@ impl Determinant {
 }
 
 impl Test {
-    ghost use Rattle.abi_det.specs.State.{IsCovered, test_holds, carry};
+    ghost use Rattle.abi_det.specs.State.{IsCovered, test_holds, imposed};
 
     /// Whether the test holds.
     fn holds(&self, sum: &[u8]) -> bool
@@ -99,9 +99,9 @@ impl Test {
     }
 
     /// Makes the test hold, or else clears its one bit; a pattern is only ever written.
-    fn carry(&self, sign: bool, sum: &mut [u8])
+    fn impose(&self, sign: bool, sum: &mut [u8])
         requires { IsCovered self.now (length sum.old) }
-        ensures { sum.new ≡ carry self.now sign sum.old }
+        ensures { sum.new ≡ imposed self.now sign sum.old }
     {
         match self {
             Test::BitDeterminant => put_bits(sum, 0, 1, sign),

@@ -7,7 +7,7 @@ ghost use Rattle.abi_det.specs.Written.{without, beside_tag};
 use crate::determinant::Test;
 use crate::roles::Roles;
 use abi_bits::BitMask;
-use abi_num::OutOfMemory;
+use abi_num::{MAX_ALIGN, OutOfMemory};
 use std::alloc::Global;
 
 impl Roles<'_> {
@@ -47,7 +47,7 @@ fn without(test: &Test, at: u64, byte: u8) -> u8
 /// The bits that a tag leaves free in the bytes before the variants.
 #[tactic(auto, using(crate::proofs::Exporting::nothing_below, crate::proofs::Exporting::room_beside_tag, crate::proofs::Exporting::next_beside_tag))]
 pub(crate) fn beside_tag(alloc: Global, front: u64) -> Result<BitMask, OutOfMemory>
-    requires { front ≤ 65536 }
+    requires { front ≤ MAX_ALIGN }
     ensures { IfOk result (λ mask. mask ≡ entries_below beside_tag front) }
 {
     let mut mask = BitMask::new(alloc);

@@ -1,16 +1,16 @@
 //! Laws over the definitions that the contracts of this crate cite. No function here does anything: its
 //! contract is the law.
 
-ghost use Rattle.abi_det.specs.Writes.{KeptLaw, CarriedLaw};
+ghost use Rattle.abi_det.specs.Writes.{KeptLaw, ImposedLaw};
 ghost use Rattle.abi_det.specs.Laws.{
   UnionLaw,
   RoundLaw,
   SizeLaw,
   PlaceLaw,
   PlacementLaw,
-  OwedLaw,
+  SoundPlacementLaw,
   LawfulSumLaw,
-  SoundSumLaw,
+  WellFormedSumLaw,
   RefusedLaw,
   RefusalsLaw,
   BlockingLaw,
@@ -48,11 +48,11 @@ pub fn placement_takes_the_first_niche()
     ensures { PlacementLaw }
 {}
 
-/// A placement gives both variants what it owes them: each stands inside the sum, the test takes only bits
+/// Every placement is sound: each variant stands inside the sum, the test takes only bits
 /// that it leaves free or a pattern that it never has, and no exported bit is one of its own or of the test's.
-#[tactic(auto, using(crate::proofs::Owed::owed))]
-pub fn placement_gives_what_it_owes()
-    ensures { OwedLaw }
+#[tactic(auto, using(crate::proofs::SoundPlacements::placements_sound))]
+pub fn placement_is_sound()
+    ensures { SoundPlacementLaw }
 {}
 
 /// The frame of a sum is lawful.
@@ -62,8 +62,8 @@ pub fn sum_is_lawful()
 {}
 
 /// The frame of a sum keeps what the frame of every layout keeps.
-pub fn sum_is_sound()
-    ensures { SoundSumLaw }
+pub fn sum_is_well_formed()
+    ensures { WellFormedSumLaw }
 {}
 
 /// All existing places have a refusal that holds exactly where the written placement is a tag.
@@ -91,13 +91,13 @@ pub fn head_is_the_first_offer()
 {}
 
 /// The two writes of a determinant change the test's own bits alone.
-#[tactic(auto, using(crate::proofs::Carrying::kept))]
+#[tactic(auto, using(crate::proofs::Imposing::kept))]
 pub fn writes_keep_other_bits()
     ensures { KeptLaw }
 {}
 
 /// After a write the test has the truth that was wanted, unless a pattern was to be absent.
-#[tactic(auto, using(crate::proofs::Carrying::carried))]
+#[tactic(auto, using(crate::proofs::Imposing::imposed))]
 pub fn writes_tell_the_variant()
-    ensures { CarriedLaw }
+    ensures { ImposedLaw }
 {}

@@ -2,8 +2,8 @@ ghost use Rattle.std.specs.Prelude.{◌≡◌, ◌↔◌, ◌≤◌, ◌<◌, Is
 ghost use Rattle.std.specs.List.{list_any};
 
 use crate::raw_layout::RawLayout;
-use abi_bits::{BitMask, ForbiddenValues, Patterns, SaturatingAddValue};
-use abi_num::OutOfMemory;
+use abi_bits::{BitMask, ForbiddenValues, MAX_SIZE, Patterns, SaturatingAddValue};
+use abi_num::{MAX_ALIGN, OutOfMemory};
 use std::alloc::Global;
 use std::marker::Model;
 
@@ -32,7 +32,7 @@ impl Layout {
     ghost use Rattle.abi_det.specs.FrameOf.{frame};
     ghost use Rattle.abi_bits.specs.Mask.{IsMask};
     ghost use Rattle.abi_bits.specs.Forbidden.{items, head, offered, is_match, AreSound};
-    ghost use Rattle.abi_det.specs.Owed.{IsSound};
+    ghost use Rattle.abi_det.specs.SoundPlacement.{IsWellFormed};
 
     /// The layout of these parts; `None` exactly where they break the rule of lawful layouts.
     pub fn new(raw: RawLayout) -> Option<Layout>
@@ -74,7 +74,7 @@ impl Layout {
     #[tactic(auto, using(crate::proofs::Lawful::size_bound))]
     pub fn size(&self) -> u64
         ensures same { result ≡ self.now.size }
-        ensures bound { result ≤ 1048576 }
+        ensures bound { result ≤ MAX_SIZE }
         ensures lawful { IsLawful self.now }
     {
         self.raw.size
@@ -85,7 +85,7 @@ impl Layout {
     pub fn align(&self) -> u64
         ensures same { result ≡ self.now.align }
         ensures positive { 0 < result }
-        ensures bound { result ≤ 65536 }
+        ensures bound { result ≤ MAX_ALIGN }
         ensures lawful { IsLawful self.now }
     {
         self.raw.align
@@ -103,7 +103,7 @@ impl Layout {
     /// The patterns that the forbidden values offer, in order.
     pub(crate) fn patterns(&self, alloc: Global) -> Result<Patterns, OutOfMemory>
         ensures same { IfOk result (λ patterns. patterns ≡ offered self.now.forbids) }
-        ensures sound { IfOk result (λ _. IsSound self.now) }
+        ensures well_formed { IfOk result (λ _. IsWellFormed self.now) }
     {
         // Does nothing: its clause on the free bits is wanted.
         self.unused();

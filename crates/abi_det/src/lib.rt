@@ -5,6 +5,7 @@ mod determinant;
 mod exports;
 pub mod laws;
 mod layout;
+mod placed_variant;
 mod placements;
 mod raw_layout;
 mod refusals;
@@ -12,7 +13,6 @@ mod roles;
 mod rules;
 mod search;
 mod spare;
-mod spot;
 mod sum;
 #[cfg(test)]
 mod tests;

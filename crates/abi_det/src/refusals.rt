@@ -3,7 +3,7 @@ ghost use Rattle.abi_bits.specs.Pairs.{moved_pairs};
 ghost use Rattle.abi_bits.specs.Forbidden.{head, offered};
 ghost use Rattle.abi_det.specs.Roles.{is_place, union_byte};
 ghost use Rattle.abi_det.specs.Offers.{One, leading_pattern, shared_bit};
-ghost use Rattle.abi_det.specs.Written.{refusal_at, refusals_below, holds, are_blocking, is_none_named};
+ghost use Rattle.abi_det.specs.Written.{refusal_at, refusals_below, refusal_holds, are_blocking, is_none_named};
 
 use crate::layout::Layout;
 use crate::placements::{Refusal, Refusals};
@@ -55,10 +55,10 @@ impl Roles<'_> {
         } else {
             let shift = self.shift(place);
             let smaller = self
-                .large_spot()
+                .placed_large()
                 .blocking(alloc, patterns.smaller.as_slice(), shift)?;
             let larger = self
-                .small_spot(shift)
+                .placed_small(shift)
                 .blocking(alloc, patterns.larger.as_slice(), 0)?;
             Ok(Refusal {
                 place,
@@ -74,7 +74,7 @@ impl Roles<'_> {
 /// free in both. Of an empty smaller variant it names nothing, and the larger has neither a leading pattern
 /// nor a free bit.
 pub fn check_refusal(ok: &Layout, err: &Layout, r: &Refusal) -> bool
-    ensures { result ≡ holds One ok.now err.now r.now }
+    ensures { result ≡ refusal_holds One ok.now err.now r.now }
 {
     let roles = Roles::new(ok, err);
     if roles.has_place(r.place) {
@@ -104,10 +104,10 @@ impl Roles<'_> {
                 && has_no_head(self.large.forbidden())
         } else {
             let shift = self.shift(r.place);
-            self.large_spot()
+            self.placed_large()
                 .are_blocking(self.small.forbidden(), shift, r.smaller.as_slice())
                 && self
-                    .small_spot(shift)
+                    .placed_small(shift)
                     .are_blocking(self.large.forbidden(), 0, r.larger.as_slice())
         }
     }

@@ -1,8 +1,11 @@
 ghost use Rattle.std.specs.Prelude.{◌≡◌, ◌≤◌, ◌<◌, ◌*◌, IsTrue, if◌then◌else◌};
+ghost use Rattle.abi_bits.specs.Pairs.{max_size};
 ghost use Rattle.abi_det.specs.Frame.{IsLawful};
 ghost use Rattle.abi_det.specs.Roles.{ok_is_larger, larger, smaller, sum_align, union_size, is_place, AreFirstBytes};
 
 use crate::layout::Layout;
+use abi_bits::MAX_SIZE;
+use abi_num::MAX_ALIGN;
 
 /// The number of places at which the smaller variant may stand.
 pub(crate) const PLACES: u64 = 8;
@@ -19,7 +22,7 @@ pub(crate) struct Roles<'a> {
     pub(crate) large_bytes: &'a [u8],
     /// The same of the smaller variant.
     pub(crate) small_bytes: &'a [u8],
-    ghost within: { size ≤ 1048576 },
+    ghost within: { size ≤ max_size },
     ghost covers: { large.now.size ≤ size },
     ghost lawful: { IsLawful large.now },
     ghost large_at_hand: { AreFirstBytes large.now.free large_bytes.now },
@@ -89,7 +92,7 @@ impl<'a> Roles<'a> {
     pub(crate) fn shift(&self, place: u64) -> u64
         requires { IsTrue (is_place self.now.small.now self.now.size place) }
         ensures same { result ≡ place * self.now.small.now.align }
-        ensures bound { result ≤ 1048576 }
+        ensures bound { result ≤ MAX_SIZE }
     {
         place * self.small.align()
     }
@@ -99,7 +102,7 @@ impl<'a> Roles<'a> {
 pub(crate) fn sum_align(ok: &Layout, err: &Layout) -> u64
     ensures same { result ≡ sum_align ok.now err.now }
     ensures positive { 0 < result }
-    ensures bound { result ≤ 65536 }
+    ensures bound { result ≤ MAX_ALIGN }
 {
     ok.align().max(err.align())
 }
@@ -110,7 +113,7 @@ pub(crate) fn union_size(ok: &Layout, err: &Layout) -> u64
     ensures same { result ≡ union_size ok.now err.now }
     ensures ok { ok.now.size ≤ result }
     ensures err { err.now.size ≤ result }
-    ensures bound { result ≤ 1048576 }
+    ensures bound { result ≤ MAX_SIZE }
     ensures lawful { IsLawful ok.now × IsLawful err.now }
 {
     ok.size()

@@ -3,17 +3,17 @@ ghost use Rattle.std.specs.List.{find};
 ghost use Rattle.abi_bits.specs.Pairs.{moved_pairs};
 ghost use Rattle.abi_bits.specs.Mask.{lowest};
 ghost use Rattle.abi_bits.specs.Forbidden.{items, head, offered, AreSound};
-ghost use Rattle.abi_det.specs.Owed.{IsSound};
+ghost use Rattle.abi_det.specs.SoundPlacement.{IsWellFormed};
 ghost use Rattle.abi_det.specs.Roles.{union_byte, spare_byte, is_place, AreFirstBytes};
 ghost use Rattle.abi_det.specs.Offers.{first_of, by_pattern, by_bit, or_else, leading_pattern, smaller_pattern, larger_pattern, shared_bit, offer_at, first_offer};
 
 use crate::determinant::Test;
 use crate::layout::Layout;
+use crate::placed_variant::PlacedVariant;
 use crate::placements::Kind;
 use crate::roles::{PLACES, Roles};
 use crate::rules::Rules;
-use crate::spot::Spot;
-use abi_bits::{ForbiddenValues, Pattern, Patterns, SingleForbiddenValue};
+use abi_bits::{ForbiddenValues, MAX_SIZE, Pattern, Patterns, SingleForbiddenValue};
 use abi_num::{Items, OutOfMemory};
 use std::alloc::Global;
 
@@ -38,7 +38,7 @@ impl<'a> Roles<'a> {
     pub(crate) fn offered(&self, alloc: Global) -> Result<Offered, OutOfMemory>
         ensures larger { IfOk result (λ o. o.larger ≡ offered self.now.large.now.forbids) }
         ensures smaller { IfOk result (λ o. o.smaller ≡ offered self.now.small.now.forbids) }
-        ensures sound { IfOk result (λ _. IsSound self.now.large.now × IsSound self.now.small.now) }
+        ensures well_formed { IfOk result (λ _. IsWellFormed self.now.large.now × IsWellFormed self.now.small.now) }
     {
         let larger = self.large.patterns(alloc)?;
         let smaller = self.small.patterns(alloc)?;
@@ -46,12 +46,12 @@ impl<'a> Roles<'a> {
     }
 
     /// The larger variant at its place.
-    pub(crate) fn large_spot(&self) -> Spot<'a>
+    pub(crate) fn placed_large(&self) -> PlacedVariant<'a>
         ensures layout { result.layout.now ≡ self.now.large.now }
         ensures shift { result.shift ≡ 0 }
         ensures size { result.size ≡ self.now.size }
     {
-        Spot {
+        PlacedVariant {
             layout: self.large,
             shift: 0,
             size: self.size,
@@ -60,12 +60,12 @@ impl<'a> Roles<'a> {
     }
 
     /// The smaller variant at a place that starts at `shift`.
-    pub(crate) fn small_spot(&self, shift: u64) -> Spot<'a>
+    pub(crate) fn placed_small(&self, shift: u64) -> PlacedVariant<'a>
         ensures layout { result.layout.now ≡ self.now.small.now }
         ensures shift { result.shift ≡ shift }
         ensures size { result.size ≡ self.now.size }
     {
-        Spot {
+        PlacedVariant {
             layout: self.small,
             shift,
             size: self.size,
@@ -149,7 +149,7 @@ impl Roles<'_> {
         ensures spared { IfOk result (λ found. IfSome found (λ f. IsSpared (spare_byte self.now.large.now self.now.small.now shift self.now.size) f.test)) }
     {
         match self
-            .small_spot(shift)
+            .placed_small(shift)
             .first_free(alloc, patterns.larger.as_slice(), 0)?
         {
             Some(pattern) => Ok(Some(Found {
@@ -169,7 +169,7 @@ impl Roles<'_> {
     ) -> Result<Option<Found>, OutOfMemory>
         requires larger { patterns.now.larger ≡ offered self.now.large.now.forbids }
         requires smaller { patterns.now.smaller ≡ offered self.now.small.now.forbids }
-        requires near { shift ≤ 1048576 }
+        requires near { shift ≤ MAX_SIZE }
         ensures same { IfOk result (λ found. option_map niche_of found
             ≡ or_else (by_pattern Kind.SmallerPattern (smaller_pattern self.now.large.now self.now.small.now self.now.size shift))
             (or_else (by_pattern Kind.LargerPattern (larger_pattern self.now.large.now self.now.small.now self.now.size shift))
@@ -177,7 +177,7 @@ impl Roles<'_> {
         ensures spared { IfOk result (λ found. IfSome found (λ f. IsSpared (spare_byte self.now.large.now self.now.small.now shift self.now.size) f.test)) }
     {
         match self
-            .large_spot()
+            .placed_large()
             .first_free(alloc, patterns.smaller.as_slice(), shift)?
         {
             Some(pattern) => Ok(Some(Found {

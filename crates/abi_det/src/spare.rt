@@ -2,8 +2,8 @@ ghost use Rattle.std.specs.Prelude.{◌≡◌, ◌<◌, ◌-◌, nat_lt, Some, N
 ghost use Rattle.abi_bits.specs.Mask.{SameFrom};
 ghost use Rattle.abi_det.specs.Roles.{union_byte, spare_byte};
 
+use crate::placed_variant::PlacedVariant;
 use crate::roles::Roles;
-use crate::spot::Spot;
 use abi_bits::Walk;
 
 /// Walks over the bits that each of the two variants leaves free of its own.
@@ -13,7 +13,7 @@ pub(crate) struct OwnBits<'a> {
     pub(crate) small: Walk<'a>,
 }
 
-impl Spot<'_> {
+impl PlacedVariant<'_> {
     ghost use Rattle.abi_det.specs.Search.{IsNextBelow};
 
     /// The first byte of the union, at the offset `from` or past it, in which the variant leaves bits free,
@@ -91,8 +91,8 @@ impl<'a> Roles<'a> {
         ensures next { IsNextBelow (spare_byte self.now.large.now self.now.small.now shift self.now.size) self.now.size from result }
         ensures left { IfSome result (λ e. AreLeft self.now.large.now self.now.small.now shift own.new e.0) }
     {
-        let large = self.large_spot();
-        let small = self.small_spot(shift);
+        let large = self.placed_large();
+        let small = self.placed_small(shift);
         let mut at = from;
         while let Some((next, byte)) = large.next_free(&mut own.large, at) {
             let (beside, other) = small.next_free(&mut own.small, next)?;

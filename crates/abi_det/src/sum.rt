@@ -1,7 +1,7 @@
 ghost use Rattle.std.specs.Prelude.{◌≡◌, ◌+◌, ◌≤◌, ◌<◌, ◌*◌, IsTrue, IfOk, if◌then◌else◌};
 ghost use Rattle.abi_det.specs.Roles.{larger, smaller, union_size, spare_byte, is_place};
 ghost use Rattle.abi_det.specs.Offers.{One};
-ghost use Rattle.abi_det.specs.Owed.{IsOwed};
+ghost use Rattle.abi_det.specs.SoundPlacement.{IsSoundPlacement};
 ghost use Rattle.abi_det.specs.Search.{niche_of, IsSpared};
 ghost use Rattle.abi_det.specs.Written.{written_placement, sum_frame, IsPlacement, IsWrittenWith, niched, tagged, means_ok, refusals_below};
 ghost use Rattle.abi_det.specs.Frame.{IsLawful};
@@ -15,8 +15,8 @@ use crate::raw_layout::RawLayout;
 use crate::roles::{Roles, sum_align, union_size};
 use crate::rules::Rules;
 use crate::search::{Found, spread};
-use abi_bits::{ForbiddenValues, SaturatingAddValue};
-use abi_num::{Items, OutOfMemory};
+use abi_bits::{ForbiddenValues, MAX_SIZE, SaturatingAddValue};
+use abi_num::{Items, MAX_ALIGN, OutOfMemory};
 use std::alloc::Global;
 
 /// Where the variants of a sum of the two stand and what tells them apart: the first place of the smaller
@@ -25,8 +25,8 @@ use std::alloc::Global;
 pub fn placement(alloc: Global, ok: &Layout, err: &Layout) -> Result<Placement, OutOfMemory>
     ensures written { IfOk result (λ p. p ≡ written_placement One ok.now err.now) }
     ensures placed { IfOk result (λ p. IsPlacement ok.now err.now p) }
-    ensures front { IfOk result (λ p. p.front ≤ 65536) }
-    ensures owed { IfOk result (λ p. IsOwed ok.now err.now p) }
+    ensures front { IfOk result (λ p. p.front ≤ MAX_ALIGN) }
+    ensures sound { IfOk result (λ p. IsSoundPlacement ok.now err.now p) }
 {
     let placement = placement_by(alloc, Rules::One, ok, err)?;
     Ok(placement)
@@ -41,8 +41,8 @@ pub fn placement_by(
 ) -> Result<Placement, OutOfMemory>
     ensures written { IfOk result (λ p. p ≡ written_placement rules ok.now err.now) }
     ensures placed { IfOk result (λ p. IsPlacement ok.now err.now p) }
-    ensures front { IfOk result (λ p. p.front ≤ 65536) }
-    ensures owed { IfOk result (λ p. IsOwed ok.now err.now p) }
+    ensures front { IfOk result (λ p. p.front ≤ MAX_ALIGN) }
+    ensures sound { IfOk result (λ p. IsSoundPlacement ok.now err.now p) }
 {
     let roles = Roles::new(ok, err);
     let patterns = roles.offered(alloc)?;
@@ -71,7 +71,7 @@ pub fn sum_layout(
     p: &Placement,
 ) -> Result<Layout, OutOfMemory>
     requires placed { IsPlacement ok.now err.now p.now }
-    requires small { union_size ok.now err.now + p.now.front ≤ 1048576 }
+    requires small { union_size ok.now err.now + p.now.front ≤ MAX_SIZE }
     ensures same { IfOk result (λ l. l ≡ sum_frame ok.now err.now p.now) }
     ensures written { IfOk result (λ l. IsWrittenWith ok.now err.now p.now l) }
     ensures lawful { IfOk result (λ l. IsLawful l) }
@@ -91,7 +91,7 @@ fn raw_sum(
     p: &Placement,
 ) -> Result<RawLayout, OutOfMemory>
     requires placed { IsPlacement ok.now err.now p.now }
-    requires small { union_size ok.now err.now + p.now.front ≤ 1048576 }
+    requires small { union_size ok.now err.now + p.now.front ≤ MAX_SIZE }
     ensures same { IfOk result (λ raw. frame raw ≡ sum_frame ok.now err.now p.now) }
     ensures lawful { IfOk result (λ raw. IsLawful (frame raw)) }
 {
@@ -117,7 +117,7 @@ fn niched(
     requires exists { IsTrue (is_place (smaller ok.now err.now) (union_size ok.now err.now) place) }
     requires spared { IsSpared (spare_byte (larger ok.now err.now) (smaller ok.now err.now) (place * (smaller ok.now err.now).align) (union_size ok.now err.now)) found.test }
     ensures same { IfOk result (λ p. p ≡ niched ok.now err.now place (niche_of found)) }
-    ensures front { IfOk result (λ p. p.front ≤ 65536) }
+    ensures front { IfOk result (λ p. p.front ≤ MAX_ALIGN) }
 {
     let roles = Roles::new(ok, err);
     let shift = roles.shift(place);
@@ -147,7 +147,7 @@ fn tagged(
 ) -> Result<Placement, OutOfMemory>
     requires { refusals ≡ refusals_below (larger ok.now err.now) (smaller ok.now err.now) (union_size ok.now err.now) 8 }
     ensures same { IfOk result (λ p. p ≡ tagged ok.now err.now) }
-    ensures front { IfOk result (λ p. p.front ≤ 65536) }
+    ensures front { IfOk result (λ p. p.front ≤ MAX_ALIGN) }
 {
     let front = sum_align(ok, err);
     let exported = beside_tag(alloc, front)?;
@@ -188,7 +188,7 @@ fn means_ok(kind: Kind, ok_is_larger: bool) -> bool
 /// The size in bytes of the sum of the two with that placement, whose `front` is at most 65,536 as it is in
 /// every placement.
 pub fn sum_size(ok: &Layout, err: &Layout, p: &Placement) -> u64
-    requires { p.now.front ≤ 65536 }
+    requires { p.now.front ≤ MAX_ALIGN }
     ensures { result ≡ union_size ok.now err.now + p.now.front }
 {
     union_size(ok, err) + p.front

@@ -8,7 +8,7 @@ use Rattle.abi_layout.specs.PartView.{shape, shapes}
 use Rattle.abi_layout.specs.declared.scalar.Scalar.{Scalar}
 use Rattle.abi_layout.specs.declared.part.Compound.TheVariants as compound
 use Rattle.abi_layout.specs.declared.part.Sort.{Sort}
-use Rattle.abi_layout.specs.declared.part.Spot.{Spot}
+use Rattle.abi_layout.specs.declared.part.SumLayout.{SumLayout}
 use Rattle.abi_layout.specs.declared.part.PartField.{PartField}
 use Rattle.abi_layout.specs.declared.part.Part.{Part, the_lemmas as part_lemmas}
 use Rattle.abi_layout.specs.declared.part.Part.TheVariants as part
@@ -22,5 +22,5 @@ shape_struct fs n = search (rules, part_lemmas)
 pub shape_array : (item : Box Part Global) (len n : ℕ) → shape (part.Array item len n) ≡ fields compound.Array n (repeated len (shape item.value))
 shape_array item len n = search (rules, part_lemmas)
 
-pub shape_sum : (names : Sort) (ok err : Box Part Global) (at : Spot) → shape (part.Sum names ok err at) ≡ sum names (sides (shape ok.value) (shape err.value)) at
+pub shape_sum : (names : Sort) (ok err : Box Part Global) (at : SumLayout) → shape (part.Sum names ok err at) ≡ sum names (sides (shape ok.value) (shape err.value)) at
 shape_sum names ok err at = search (rules, part_lemmas)

@@ -16,7 +16,7 @@ use Rattle.abi_num.specs.declared.target.Target.{Target}
 use Rattle.abi_det.specs.Frame.{Frame, is_lawful, IsLawful}
 use Rattle.abi_det.specs.Offers.{Rules, or_else, first_of}
 use Rattle.abi_det.specs.Written.{written_sum}
-use Rattle.abi_det.specs.Owed.{are_bytes, IsSound}
+use Rattle.abi_det.specs.SoundPlacement.{are_bytes, IsWellFormed}
 use Rattle.abi_det.proofs.Chosen.{sound_sum}
 use Rattle.abi_det.proofs.Lawful.{parts as lawful_parts}
 use Rattle.abi_layout.specs.Builders.{start_after, whole_between, byte_from}
@@ -37,10 +37,10 @@ use Rattle.abi_layout.proofs.Folding.{lawful_keeps, first_start, unmoved_pairs}
 use Rattle.abi_layout.proofs.Opening.{solid_parts}
 use Rattle.abi_layout.proofs.Rows.{scalar_lawful}
 
--- each of the frames is sound
-abbrev pub AreSound : List Frame → Type 0
-AreSound [] = Unit {0}
-AreSound (f ∷ fs) = IsSound f × AreSound fs
+-- each of the frames is well-formed
+abbrev pub AreWellFormed : List Frame → Type 0
+AreWellFormed [] = Unit {0}
+AreWellFormed (f ∷ fs) = IsWellFormed f × AreWellFormed fs
 
 whole_small : (from to at : ℕ) → whole_between from to at < 256
 whole_small from to at = by_test (leb from at && ltb at to) where
@@ -54,7 +54,7 @@ from_small start f at m = by_test (leb start at) where
   by_test true = mask_at_lt f.free (at - start) m
   by_test false = lit< tt
 
-fields_small : (end : ℕ) (fs : List Frame) (at : ℕ) → AreSound fs → fields_byte (positions end fs) at < 256
+fields_small : (end : ℕ) (fs : List Frame) (at : ℕ) → AreWellFormed fs → fields_byte (positions end fs) at < 256
 fields_small end [] at s = lit< tt
 fields_small end (f ∷ fs) at s =
     let start = start_after end f in
@@ -128,7 +128,7 @@ items_bytes by (it ∷ its) b =
     and_from (are_bytes (offer (moved_item by it))) (list_all are_bytes (offered (map (moved_item by) its)))
     (rw (offer_moved by it) (pairs_bytes by (offer it) a.0)) (items_bytes by its a.1)
 
-fields_bytes : (end : ℕ) (fs : List Frame) → AreSound fs → list_all are_bytes (offered (fields_items (positions end fs))) ≡ true
+fields_bytes : (end : ℕ) (fs : List Frame) → AreWellFormed fs → list_all are_bytes (offered (fields_items (positions end fs))) ≡ true
 fields_bytes end [] s = refl
 fields_bytes end (f ∷ fs) s =
     let start = start_after end f in
@@ -137,7 +137,7 @@ fields_bytes end (f ∷ fs) s =
     rw (map-append offer own more, list_all-append are_bytes (offered own) (offered more))
     (and_from (list_all are_bytes (offered own)) (list_all are_bytes (offered more)) (items_bytes start f.forbids s.0.bytes) (fields_bytes (start + f.size) fs s.1))
 
-fields_kept : (n end : ℕ) (free : List Pair) (fs : List Frame) → AreSound fs → list_all (is_solid_item n free) (fields_items (positions end fs)) ≡ true
+fields_kept : (n end : ℕ) (free : List Pair) (fs : List Frame) → AreWellFormed fs → list_all (is_solid_item n free) (fields_items (positions end fs)) ≡ true
     → n ≤ 1048576 → list_all is_pattern (offered (fields_items (positions end fs))) ≡ true
 fields_kept n end free [] s h le = refl
 fields_kept n end free (f ∷ fs) s h le =
@@ -154,12 +154,12 @@ lead_kept : (start : ℕ) (its more : List Item) (ps : List Pair) → start ≡ 
 lead_kept start [] more ps z e = absurd (cc)
 lead_kept start (it ∷ its) more ps z e = rw (z, offer_moved 0 it, unmoved_pairs (offer it)) e
 
-fields_lead : (fs : List Frame) → AreSound fs → (ps : List Pair) → first_head fs ≡ Some ps → first_of (offered (fields_items (positions 0 fs))) ≡ Some ps
+fields_lead : (fs : List Frame) → AreWellFormed fs → (ps : List Pair) → first_head fs ≡ Some ps → first_of (offered (fields_items (positions 0 fs))) ≡ Some ps
 fields_lead [] s ps e = absurd (cc)
 fields_lead (f ∷ fs) s ps e =
     lead_kept (start_after 0 f) f.forbids (fields_items (positions (start_after 0 f + f.size) fs)) ps (first_start f (lawful_keeps f s.0.lawful).positive) (s.0.leads ps e)
 
-pub struct_sound : (fs : List Frame) (align : Option ℕ) → AreSound fs → IsLawful (struct_frame fs align) → IsSound (struct_frame fs align)
+pub struct_sound : (fs : List Frame) (align : Option ℕ) → AreWellFormed fs → IsLawful (struct_frame fs align) → IsWellFormed (struct_frame fs align)
 unfolding struct_frame
 struct_sound fs align s l =
     let parts = lawful_parts (struct_frame fs align) l in
@@ -200,7 +200,7 @@ each_offered keeps (scalars.Int i) two zeros = by_zero i.zero (zero_bytes (width
   by_zero true ps k = refl
   by_zero false ps k = and_from (keeps ps) true k refl
 
-scalar_sound : (target : Target) (c : Scalar) → is_row target ≡ true → IsSound (scalar_frame target c)
+scalar_sound : (target : Target) (c : Scalar) → is_row target ≡ true → IsWellFormed (scalar_frame target c)
 unfolding scalar_frame
 scalar_sound target c row = record {
   lawful = scalar_lawful target c row;
@@ -210,16 +210,16 @@ scalar_sound target c row = record {
   leads = lead_scalar c;
 }
 
-sound_whole : (rules : Rules) (ok err : Frame) (part : ℕ) → IsSound ok → IsSound err → size_fault part (written_sum rules ok err) ≡ None → IsSound (written_sum rules ok err)
+sound_whole : (rules : Rules) (ok err : Frame) (part : ℕ) → IsWellFormed ok → IsWellFormed err → size_fault part (written_sum rules ok err) ≡ None → IsWellFormed (written_sum rules ok err)
 unfolding written_sum
 sound_whole rules ok err part so se h = sound_sum rules ok err so se (small_enough part (written_sum rules ok err) h)
 
-all_lawful : (fs : List Frame) → AreSound fs → AreLawful fs
+all_lawful : (fs : List Frame) → AreWellFormed fs → AreLawful fs
 all_lawful [] s = refl
 all_lawful (f ∷ fs) s = and_from (is_lawful f) (list_all is_lawful fs) s.0.lawful (all_lawful fs s.1)
 
 mutual
-  pub part_sound : (rules : Rules) (target : Target) (first : ℕ) (t : Tree) → is_row target ≡ true → part_fault rules target first t ≡ None → IsSound (written_frame rules target t)
+  pub part_sound : (rules : Rules) (target : Target) (first : ℕ) (t : Tree) → is_row target ≡ true → part_fault rules target first t ≡ None → IsWellFormed (written_frame rules target t)
   part_sound rules target first (tree.prim p) row h = scalar_sound target (scalar_of target p) row
   part_sound rules target first (tree.struct label fs align) row h =
       let whole : Option DescError = size_fault (first + parts_in fs) (written_frame rules target (tree.struct label fs align)) in
@@ -241,7 +241,7 @@ mutual
       (part_sound rules target first (side true) row a.0) (part_sound rules target (first + parts (side true)) (side false) row b.0) b.1
 
   pub parts_sound : (rules : Rules) (target : Target) (first : ℕ) (fs : Branches) → is_row target ≡ true → part_fault_in rules target first fs ≡ None
-      → AreSound (written_frames rules target fs)
+      → AreWellFormed (written_frames rules target fs)
   parts_sound rules target first tree.none row h = tt
   parts_sound rules target first (tree.field name t fs) row h =
       let a = no_fault (part_fault rules target first t) (part_fault_in rules target (first + parts t) fs) h in

@@ -5,7 +5,7 @@ use Rattle.std.proofs.lemmas.List.Edits.{insert-append_right}
 use Rattle.abi_num.specs.declared.target.Target.{Target}
 use Rattle.abi_det.specs.Frame.{Frame, IsLawful}
 use Rattle.abi_det.specs.Offers.{Rules}
-use Rattle.abi_det.specs.Owed.{IsOwed}
+use Rattle.abi_det.specs.SoundPlacement.{IsSoundPlacement}
 use Rattle.abi_det.specs.Roles.{union_size}
 use Rattle.abi_det.specs.Written.{written_placement, written_sum}
 use Rattle.abi_det.specs.declared.placements.Placement.{Placement}
@@ -14,8 +14,8 @@ use Rattle.abi_layout.specs.Trees.{Tree, Branches, prim, struct, sum, field, var
 use Rattle.abi_layout.specs.Builders.{start_after}
 use Rattle.abi_layout.specs.Faults.{IsFault}
 use Rattle.abi_layout.specs.Frames.{written_frame}
-use Rattle.abi_layout.specs.Plans.{spot_at, spot_of, planned, planned_in, IsNamed, AreNamed}
-use Rattle.abi_layout.specs.Sums.{placed, written_sums}
+use Rattle.abi_layout.specs.Plans.{sum_layout_at, sum_layout_of, shape_of, shapes_of, IsNamed, AreNamed}
+use Rattle.abi_layout.specs.Sums.{numbered_placement, written_sums}
 use Rattle.abi_layout.specs.Shape.{Shapes, last, field as behind}
 use Rattle.abi_layout.specs.PartView.{shape, shapes}
 use Rattle.abi_layout.specs.declared.desc_error.DescError.{DescError}
@@ -42,10 +42,10 @@ fronted_last (p ∷ ps) = ap (behind p.gap (shape p.part)) (fronted_last ps)
 
 -- one field more behind its gap
 pub more_fields : (rules : Rules) (target : Target) (name : List ℕ) (t : Tree) (fs : Branches) (old new : List PartField) (p : PartField) (end start size : ℕ) (f : Frame) (all : Shapes)
-    → new ≡ old ++ (p ∷ []) → p.gap ≡ start - end → shape p.part ≡ planned rules target t → f ≡ written_frame rules target t → start ≡ start_after end f → size ≡ f.size
-    → fronted old (planned_in rules target end (field name t fs)) ≡ all → fronted new (planned_in rules target (start + size) fs) ≡ all
+    → new ≡ old ++ (p ∷ []) → p.gap ≡ start - end → shape p.part ≡ shape_of rules target t → f ≡ written_frame rules target t → start ≡ start_after end f → size ≡ f.size
+    → fronted old (shapes_of rules target end (field name t fs)) ≡ all → fronted new (shapes_of rules target (start + size) fs) ≡ all
 more_fields rules target name t fs old new p end start size f all en eg ep ef es ez h =
-    rw (en, fronted_more old p (planned_in rules target (start + size) fs), eg, ep, es, ez, ef) h
+    rw (en, fronted_more old p (shapes_of rules target (start + size) fs), eg, ep, es, ez, ef) h
 
 more_named : (ps : List PartField) (p : PartField) → AreNamed (shapes ps) → IsNamed (shape p.part) → AreNamed (shapes (ps ++ p ∷ []))
 more_named [] p a n = (n, tt)
@@ -68,18 +68,18 @@ some_part (sum names side) = omega arith
 -- ---- sums
 
 -- both variants of a sum start in its bytes
-pub starts_inside : (rules : Rules) (ok err : Frame) (p : Placement) (whole : Frame) → IsOwed ok err p → p ≡ written_placement rules ok err → whole ≡ written_sum rules ok err → IsLawful whole
+pub starts_inside : (rules : Rules) (ok err : Frame) (p : Placement) (whole : Frame) → IsSoundPlacement ok err p → p ≡ written_placement rules ok err → whole ≡ written_sum rules ok err → IsLawful whole
     → (p.front + p.ok_shift ≤ 1048576) × (p.front + p.err_shift ≤ 1048576)
 unfolding written_sum
-starts_inside rules ok err p whole owed e same lawful =
+starts_inside rules ok err p whole sound e same lawful =
     let size : whole.size ≡ union_size ok err + p.front = rw e (ap (λ (f : Frame). f.size) same) in
     let small : whole.size ≤ 1048576 = size_bound whole lawful in
-    (omega (arith, owed.ok_side.inside, size, small), omega (arith, owed.err_side.inside, size, small))
+    (omega (arith, sound.ok_side.inside, size, small), omega (arith, sound.err_side.inside, size, small))
 
-pub spot_made : (rules : Rules) (ok err whole : Frame) (p : Placement) → p ≡ written_placement rules ok err → whole ≡ written_sum rules ok err
-    → spot_at whole.size p ≡ spot_of rules ok err
+pub sum_layout_made : (rules : Rules) (ok err whole : Frame) (p : Placement) → p ≡ written_placement rules ok err → whole ≡ written_sum rules ok err
+    → sum_layout_at whole.size p ≡ sum_layout_of rules ok err
 unfolding written_sum
-spot_made rules ok err whole p e same = rw (same, e) refl
+sum_layout_made rules ok err whole p e same = rw (same, e) refl
 
 -- an item that is put where others begin
 insert_between : (old others : List Placed) (x : Placed) (at : ℕ) → at ≡ length old → insert (old ++ others) at x ≡ old ++ (x ∷ others)
@@ -92,12 +92,12 @@ pub sums_of_sum : (rules : Rules) (target : Target) (t : Tree) (names : Sort) (s
     → t ≡ sum names side → at ≡ length old → next ≡ first + parts (side true) → number ≡ first + variant_parts names (parts (side true)) (parts (side false))
     → f ≡ written_frame rules target (side true) → g ≡ written_frame rules target (side false)
     → one ≡ old ++ written_sums rules target first (side true) → two ≡ one ++ written_sums rules target next (side false)
-    → new ≡ insert two at (placed number (written_placement rules f g)) → new ≡ old ++ written_sums rules target first t
+    → new ≡ insert two at (numbered_placement number (written_placement rules f g)) → new ≡ old ++ written_sums rules target first t
 sums_of_sum rules target t names side first next number at f g old one two new is ea en em ef eg first_ second put =
     let of_ok = written_sums rules target first (side true) in
     let of_err = written_sums rules target next (side false) in
     let all : two ≡ old ++ (of_ok ++ of_err) = second ∙ rw first_ (append_assoc old of_ok of_err) in
-    put ∙ rw (all, insert_between old (of_ok ++ of_err) (placed number (written_placement rules f g)) at ea, is, em, en, ef, eg) refl
+    put ∙ rw (all, insert_between old (of_ok ++ of_err) (numbered_placement number (written_placement rules f g)) at ea, is, em, en, ef, eg) refl
 
 -- want of memory
 pub memory_fault : {A : Type 0} (r : Result A DescError) (found : Option DescError) → IsErrAnd r (λ e. e ≡ fault.OutOfMemory) → IfErr r (IsFault found)

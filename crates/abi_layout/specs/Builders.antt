@@ -3,7 +3,7 @@ use Rattle.std.specs.Prelude.{ℕ, ◌+◌, ◌-◌, ◌*◌, [], ◌++◌, Bool
 use Rattle.std.specs.List.{list_all}
 use Rattle.std.specs.Int.{next_multiple_of}
 use Rattle.abi_num.specs.Alignment.{is_alignment}
-use Rattle.abi_bits.specs.Pairs.{moved_pairs, are_below}
+use Rattle.abi_bits.specs.Pairs.{moved_pairs, are_below, max_size}
 use Rattle.abi_bits.specs.Mask.{mask_at, entries_below}
 use Rattle.abi_bits.specs.Forbidden.{moved_item, is_solid_item}
 use Rattle.abi_bits.specs.declared.saturating_add_value.SaturatingAddValue.{SaturatingAddValue}
@@ -14,7 +14,7 @@ use Rattle.abi_bits.specs.Count.{added}
 -- lawful but for the size, which need be no multiple of the alignment: what is built of fields before it is closed
 abbrev pub is_open : Frame → Bool
 is_open f =
-    is_alignment f.align && nat_le f.size 1048576
+    is_alignment f.align && nat_le f.size max_size
     && are_below f.size f.free && list_all (is_solid_item f.size f.free) f.forbids
 
 abbrev pub IsOpen : Frame → Type 0

@@ -3,6 +3,7 @@ use Rattle.std.specs.Prelude.{◌≡◌, ◌≢◌, ℕ, ◌+◌, List, true, fa
 use Rattle.abi_num.specs.Alignment.{is_alignment}
 use Rattle.abi_num.specs.Target.{is_row}
 use Rattle.abi_num.specs.declared.target.Target.{Target}
+use Rattle.abi_bits.specs.Pairs.{max_size}
 use Rattle.abi_det.specs.Offers.{Rules, or_else}
 use Rattle.abi_det.specs.Frame.{Frame}
 use Rattle.abi_layout.specs.declared.desc_error.DescError.{DescError}
@@ -14,7 +15,7 @@ use Rattle.abi_layout.specs.Frames.{written_frame, written_frames}
 
 -- a part's size passes the greatest size
 abbrev pub size_fault : ℕ → Frame → Option DescError
-size_fault part f = if nat_lt 1048576 f.size then Some (fault.TooLarge part) else None
+size_fault part f = if nat_lt max_size f.size then Some (fault.TooLarge part) else None
 
 -- a requested alignment is no power of two up to 65,536
 abbrev pub align_fault : ℕ → Option ℕ → Option DescError
@@ -51,11 +52,15 @@ abbrev mutual
   part_fault_in rules target first (field name t fs) =
       or_else (part_fault rules target first t) (part_fault_in rules target (first + parts t) fs)
 
+-- the greatest number of parts of a description
+abbrev pub max_parts : ℕ
+max_parts = 4096
+
 -- the first fault of a description: its target, its number of parts, then part by part
 unfoldable pub desc_fault : Rules → Target → Tree → Option DescError
 desc_fault rules target t =
     if not (is_row target) then Some fault.BadTarget
-    else (if nat_lt 4096 (parts t) then Some fault.TooManyParts else part_fault rules target 0 t)
+    else (if nat_lt max_parts (parts t) then Some fault.TooManyParts else part_fault rules target 0 t)
 
 -- the fault of a description whatever the rules
 abbrev pub IsFaultByAny : Target → Tree → DescError → Type 0

@@ -4,7 +4,7 @@ use Rattle.abi_num.specs.Target.{is_row}
 use Rattle.abi_num.specs.declared.target.Target.{Target}
 use Rattle.abi_det.specs.Frame.{Frame, IsLawful}
 use Rattle.abi_det.specs.Offers.{Rules}
-use Rattle.abi_det.specs.Owed.{IsSound}
+use Rattle.abi_det.specs.SoundPlacement.{IsWellFormed}
 use Rattle.abi_layout.specs.Structs.{struct_frame}
 use Rattle.abi_layout.specs.Folds.{opened, closed_by, AreLawful}
 use Rattle.abi_layout.specs.Trees.{Tree}
@@ -23,10 +23,10 @@ LawfulLaw =
     → IsLawful (written_frame rules target t)
 
 -- and keeps what a placement asks of its variants
-abbrev pub SoundLaw : Type 0
-SoundLaw =
+abbrev pub WellFormedLaw : Type 0
+WellFormedLaw =
     (rules : Rules) (target : Target) (first : ℕ) (t : Tree) → IsTrue (is_row target) → part_fault rules target first t ≡ None
-    → IsSound (written_frame rules target t)
+    → IsWellFormed (written_frame rules target t)
 
 -- the fault of a description is never want of memory
 abbrev pub CauseLaw : Type 0

@@ -17,11 +17,11 @@ use Rattle.abi_layout.specs.declared.scalar.Scalar.TheVariants as scalars
 use Rattle.abi_layout.specs.declared.part.Compound.TheVariants as compound
 use Rattle.abi_layout.specs.declared.part.Sort.{Sort}
 use Rattle.abi_layout.specs.declared.part.Sort.TheVariants as sort
-use Rattle.abi_layout.specs.declared.part.Spot.{Spot}
+use Rattle.abi_layout.specs.declared.part.SumLayout.{SumLayout}
 
 -- where the variants of a sum of `size` bytes stand by its placement, counted from its first byte
-abbrev pub spot_at : ℕ → Placement → Spot
-spot_at size p = record {
+abbrev pub sum_layout_at : ℕ → Placement → SumLayout
+sum_layout_at size p = record {
   ok = p.front + p.ok_shift;
   err = p.front + p.err_shift;
   size = size;
@@ -29,24 +29,24 @@ spot_at size p = record {
 }
 
 -- by the written placement
-abbrev pub spot_of : Rules → Frame → Frame → Spot
-spot_of rules ok err = spot_at (union_size ok err + (written_placement rules ok err).front) (written_placement rules ok err)
+abbrev pub sum_layout_of : Rules → Frame → Frame → SumLayout
+sum_layout_of rules ok err = sum_layout_at (union_size ok err + (written_placement rules ok err).front) (written_placement rules ok err)
 
 abbrev mutual
-  pub planned : Rules → Target → Tree → Shape
-  planned rules target (trees.prim p) = scalar (scalar_of target p)
-  planned rules target (trees.struct label fs align) =
-      fields compound.Struct (struct_frame (written_frames rules target fs) align).size (planned_in rules target 0 fs)
-  planned rules target (trees.sum names side) =
-      sum names (sides (planned rules target (side true)) (planned rules target (side false)))
-      (spot_of rules (written_frame rules target (side true)) (written_frame rules target (side false)))
+  pub shape_of : Rules → Target → Tree → Shape
+  shape_of rules target (trees.prim p) = scalar (scalar_of target p)
+  shape_of rules target (trees.struct label fs align) =
+      fields compound.Struct (struct_frame (written_frames rules target fs) align).size (shapes_of rules target 0 fs)
+  shape_of rules target (trees.sum names side) =
+      sum names (sides (shape_of rules target (side true)) (shape_of rules target (side false)))
+      (sum_layout_of rules (written_frame rules target (side true)) (written_frame rules target (side false)))
 
   -- the fields after `end` bytes
-  pub planned_in : Rules → Target → ℕ → Branches → Shapes
-  planned_in rules target end trees.none = last
-  planned_in rules target end (trees.field name t fs) =
-      field (start_after end (written_frame rules target t) - end) (planned rules target t)
-      (planned_in rules target (start_after end (written_frame rules target t) + (written_frame rules target t).size) fs)
+  pub shapes_of : Rules → Target → ℕ → Branches → Shapes
+  shapes_of rules target end trees.none = last
+  shapes_of rules target end (trees.field name t fs) =
+      field (start_after end (written_frame rules target t) - end) (shape_of rules target t)
+      (shapes_of rules target (start_after end (written_frame rules target t) + (written_frame rules target t).size) fs)
 
 -- an option's second variant is `()`: what `None` has
 abbrev pub is_second : Sort → Shape → Bool

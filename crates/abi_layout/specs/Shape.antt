@@ -4,7 +4,7 @@ use Rattle.abi_layout.specs.Prims.{scalar_size}
 use Rattle.abi_layout.specs.declared.scalar.Scalar.{Scalar}
 use Rattle.abi_layout.specs.declared.part.Compound.{Compound}
 use Rattle.abi_layout.specs.declared.part.Sort.{Sort}
-use Rattle.abi_layout.specs.declared.part.Spot.{Spot}
+use Rattle.abi_layout.specs.declared.part.SumLayout.{SumLayout}
 
 mutual
   pub data Shape : Type 0 where
@@ -12,7 +12,7 @@ mutual
     -- what they are, and the size of all in bytes
     fields : Compound → ℕ → Shapes → Shape
     -- what the variants are called, what each is (the first is `Ok` or `Some`), and where they stand
-    sum : Sort → (Bool → Shape) → Spot → Shape
+    sum : Sort → (Bool → Shape) → SumLayout → Shape
 
   pub data Shapes : Type 0 where
     last : Shapes

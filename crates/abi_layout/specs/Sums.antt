@@ -9,8 +9,8 @@ use Rattle.abi_layout.specs.Frames.{written_frame}
 use Rattle.abi_layout.specs.declared.placed.Placed.{Placed}
 
 -- part number `part`, with this placement
-abbrev pub placed : ℕ → Placement → Placed
-placed part p = record {
+abbrev pub numbered_placement : ℕ → Placement → Placed
+numbered_placement part p = record {
   part = part;
   place = p.place;
   front = p.front;
@@ -27,7 +27,7 @@ abbrev mutual
   written_sums rules target first (prim p) = []
   written_sums rules target first (struct label fs align) = written_sums_in rules target first fs
   written_sums rules target first (sum names side) =
-      placed (first + variant_parts names (parts (side true)) (parts (side false)))
+      numbered_placement (first + variant_parts names (parts (side true)) (parts (side false)))
       (written_placement rules (written_frame rules target (side true)) (written_frame rules target (side false)))
       ∷ (written_sums rules target first (side true) ++ written_sums rules target (first + parts (side true)) (side false))
 

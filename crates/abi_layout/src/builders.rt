@@ -7,7 +7,7 @@ ghost use Rattle.abi_det.specs.Frame.{IsLawful};
 ghost use Rattle.abi_det.specs.FrameOf.{frame};
 ghost use Rattle.abi_layout.specs.Builders.{IsOpen, start_after, whole_between, byte_from, counted, after, pair, rounded_to, closed, closed_at, overlaid, repeated, bare};
 
-use abi_bits::{BitMask, ForbiddenValues, SaturatingAddValue};
+use abi_bits::{BitMask, ForbiddenValues, MAX_SIZE, SaturatingAddValue};
 use abi_det::{Layout, RawLayout};
 use abi_num::{Alignment, OutOfMemory};
 use std::alloc::Global;
@@ -15,7 +15,7 @@ use std::alloc::Global;
 /// `t` after `start` bytes: at the next multiple of its alignment, with the bytes up to there free.
 /// The resulting size is at most `MAX_SIZE`.
 pub fn aligned_after(alloc: Global, t: &Layout, start: u64) -> Result<RawLayout, OutOfMemory>
-    requires { start_after start t.now + t.now.size ≤ 1048576 }
+    requires { start_after start t.now + t.now.size ≤ MAX_SIZE }
     ensures { IfOk result (λ raw. frame raw ≡ after t.now start) }
 {
     let from = start.next_multiple_of(t.align());
@@ -35,7 +35,7 @@ pub fn aligned_after(alloc: Global, t: &Layout, start: u64) -> Result<RawLayout,
 /// which need be no multiple of the alignment. The resulting size is at most `MAX_SIZE`.
 pub fn field_pair(alloc: Global, a: &RawLayout, b: &Layout) -> Result<RawLayout, OutOfMemory>
     requires open { IsOpen (frame a.now) }
-    requires room { start_after a.now.size b.now + b.now.size ≤ 1048576 }
+    requires room { start_after a.now.size b.now + b.now.size ≤ MAX_SIZE }
     ensures same { IfOk result (λ raw. frame raw ≡ pair (frame a.now) b.now) }
     ensures built { IfOk result (λ raw. IsOpen (frame raw)) }
 {
@@ -51,7 +51,7 @@ pub(crate) fn push_field(
     field: &Layout,
 ) -> Result<RawLayout, OutOfMemory>
     requires open { IsOpen (frame before) }
-    requires room { start_after before.size field.now + field.now.size ≤ 1048576 }
+    requires room { start_after before.size field.now + field.now.size ≤ MAX_SIZE }
     ensures same { IfOk result (λ raw. frame raw ≡ pair (frame before) field.now) }
     ensures lawful { IfOk result (λ _. IsLawful field.now) }
 {
@@ -131,7 +131,7 @@ pub fn union_of(alloc: Global, ok: &Layout, err: &Layout) -> Layout
 /// what it has.
 pub fn array_of(alloc: Global, item: &Layout, len: u64) -> Result<Layout, OutOfMemory>
     requires few { len ≤ 128 }
-    requires room { item.now.size * len ≤ 1048576 }
+    requires room { item.now.size * len ≤ MAX_SIZE }
     ensures { IfOk result (λ l. l ≡ repeated item.now len) }
 {
     if len == 1 {
@@ -196,7 +196,7 @@ fn counted(same: bool, niches: SaturatingAddValue) -> SaturatingAddValue
 fn with_field(unused: BitMask, end: u64, start: u64, field: &Layout) -> Result<BitMask, OutOfMemory>
     requires below { IsTrue (are_below end unused) }
     requires ordered { end ≤ start }
-    requires room { start + field.now.size ≤ 1048576 }
+    requires room { start + field.now.size ≤ MAX_SIZE }
     ensures { IfOk result (λ mask. mask ≡ entries_below
         (λ at. bit_or (mask_at unused at)
         (bit_or (whole_between end start at) (byte_from start field.now at)))
@@ -212,7 +212,7 @@ fn with_field(unused: BitMask, end: u64, start: u64, field: &Layout) -> Result<B
 fn with_whole(mut unused: BitMask, from: u64, to: u64) -> Result<BitMask, OutOfMemory>
     requires below { IsTrue (are_below from unused) }
     requires ordered { from ≤ to }
-    requires within { to ≤ 1048576 }
+    requires within { to ≤ MAX_SIZE }
     ensures valid { IfOk result (λ mask. IsMask mask) }
     ensures below { IfOk result (λ mask. IsTrue (are_below to mask)) }
     ensures bytes { IfOk result (λ mask. (at : ℕ) →

@@ -7,7 +7,7 @@ use abi_num::OutOfMemory;
 pub enum DescError {
     /// The target is not a supported one.
     BadTarget,
-    /// There are more than 4,096 parts.
+    /// There are more than `MAX_PARTS` parts.
     TooManyParts,
     /// The part breaks a rule of its form.
     IllFormed {

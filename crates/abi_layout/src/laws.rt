@@ -1,5 +1,5 @@
 //! Laws over the definitions of layouts: each is the contract of a function that does nothing.
-ghost use Rattle.abi_layout.specs.Laws.{CauseLaw, FoldLaw, LawfulLaw, SoundLaw};
+ghost use Rattle.abi_layout.specs.Laws.{CauseLaw, FoldLaw, LawfulLaw, WellFormedLaw};
 
 /// Fields folded from the left and closed, at a requested alignment or their own, make the struct
 /// by positions: size, alignment, free bits, forbidden values, head, count and indirections.
@@ -15,8 +15,8 @@ pub fn faultless_is_lawful()
 
 /// Its free bits and patterns stand in order, and what its leftmost forbidden value offers is the
 /// first pattern that it offers.
-pub fn faultless_is_sound()
-    ensures { SoundLaw }
+pub fn faultless_is_well_formed()
+    ensures { WellFormedLaw }
 {}
 
 /// The fault of a description is never want of memory.

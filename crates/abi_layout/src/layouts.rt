@@ -5,12 +5,12 @@ ghost use Rattle.abi_layout.specs.Trees.{tree, parts};
 ghost use Rattle.abi_layout.specs.Frames.{written_frame};
 ghost use Rattle.abi_layout.specs.Faults.{IsFault, IsFaultByAny, desc_fault};
 ghost use Rattle.abi_layout.specs.PartView.{shape};
-ghost use Rattle.abi_layout.specs.Plans.{planned, IsNamed};
+ghost use Rattle.abi_layout.specs.Plans.{shape_of, IsNamed};
 ghost use Rattle.abi_layout.specs.Sums.{written_sums};
 
 use crate::desc::Desc;
 use crate::desc_error::DescError;
-use crate::numbering::parts;
+use crate::numbering::{MAX_PARTS, parts};
 use crate::part::Part;
 use crate::placed::PlacedList;
 use crate::walk::lay_out_part;
@@ -30,7 +30,7 @@ pub struct LaidOut {
 }
 
 /// Lays out a description on a target, by these rules. Refused with the first fault: `BadTarget`
-/// where the target is no supported one, `TooManyParts` where there are more than 4,096 parts, and
+/// where the target is no supported one, `TooManyParts` where there are more than `MAX_PARTS` parts, and
 /// else that of the first part, in post-order, that has one.
 #[tactic(auto, using(crate::proofs::Steps::faultless))]
 pub fn lay_out(
@@ -40,7 +40,7 @@ pub fn lay_out(
     desc: &Desc,
 ) -> Result<LaidOut, DescError>
     ensures faultless { IfOk result (λ _. desc_fault rules target.now (tree desc.now) ≡ None) }
-    ensures part { IfOk result (λ f. shape f.part ≡ planned rules target.now (tree desc.now)) }
+    ensures part { IfOk result (λ f. shape f.part ≡ shape_of rules target.now (tree desc.now)) }
     ensures named { IfOk result (λ f. IsNamed (shape f.part)) }
     ensures layout { IfOk result (λ f. f.layout ≡ written_frame rules target.now (tree desc.now)) }
     ensures placed { IfOk result (λ f. f.placed ≡ written_sums rules target.now 0 (tree desc.now)) }
@@ -66,16 +66,16 @@ pub fn layout_of(alloc: Global, target: &Target, desc: &Desc) -> Result<Layout, 
     Ok(found.layout)
 }
 
-/// Whether the target is a supported one and there are at most 4,096 parts, whatever the rules.
+/// Whether the target is a supported one and there are at most `MAX_PARTS` parts, whatever the rules.
 #[tactic(auto, using(crate::proofs::Steps::bad_target, crate::proofs::Steps::too_many))]
 fn check(target: &Target, desc: &Desc) -> Result<(), DescError>
-    ensures ok { OnOk result (IsTrue (is_row target.now) × (parts (tree desc.now) ≤ 4096)) }
+    ensures ok { OnOk result (IsTrue (is_row target.now) × (parts (tree desc.now) ≤ MAX_PARTS)) }
     ensures err { IfErr result (IsFaultByAny target.now (tree desc.now)) }
 {
     if !target.is_row() {
         return Err(DescError::BadTarget);
     }
-    if parts(desc) > 4096 {
+    if parts(desc) > MAX_PARTS {
         return Err(DescError::TooManyParts);
     }
     Ok(())

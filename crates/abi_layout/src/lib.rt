@@ -22,8 +22,8 @@ pub use builders::{aligned_after, aligned_struct, array_of, field_pair, struct_o
 pub use desc::{Desc, Field, FieldDescs};
 pub use desc_error::DescError;
 pub use layouts::{LaidOut, lay_out, layout_of};
-pub use numbering::parts;
-pub use part::{Compound, Part, PartField, PartFields, Sort, Spot};
+pub use numbering::{MAX_PARTS, parts};
+pub use part::{Compound, Part, PartField, PartFields, Sort, SumLayout};
 pub use placed::{Placed, PlacedList};
 pub use prim::Primitive as Prim;
 pub use primitives::{prim_layout, scalar_of};

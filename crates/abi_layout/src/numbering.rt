@@ -3,14 +3,17 @@ ghost use Rattle.abi_layout.specs.Trees.{tree, branches, parts, parts_in};
 
 use crate::desc::{Desc, Field};
 
-/// More parts than a description may have.
-const TOO_MANY: u32 = 4097;
+/// The greatest number of parts of a description, pointees and conditions included.
+pub const MAX_PARTS: u32 = 4096;
 
-/// The number of parts of a description, or 4,097 where it is larger.
+/// More parts than a description may have.
+const TOO_MANY: u32 = MAX_PARTS + 1;
+
+/// The number of parts of a description, or `MAX_PARTS` and one where it is larger.
 #[cycle(count)]
 #[tactic(auto, using(crate::proofs::Views::tree_struct))]
 pub fn parts(desc: &Desc) -> u32
-    ensures { result ≡ min 4097 (parts (tree desc.now)) }
+    ensures { result ≡ min TOO_MANY (parts (tree desc.now)) }
 {
     match desc {
         Desc::Prim(_) => 1,
@@ -22,7 +25,7 @@ pub fn parts(desc: &Desc) -> u32
 
 #[cycle(count)]
 fn parts_in(fields: &[Field]) -> u32
-    ensures { result ≡ min 4097 (parts_in (branches fields.now)) }
+    ensures { result ≡ min TOO_MANY (parts_in (branches fields.now)) }
 {
     let mut sum = 0;
     for field in fields {

@@ -33,7 +33,7 @@ pub enum Part {
         /// The variant `Err` or `None`.
         err: Box<Part>,
         /// Where the variants stand, and what tells them apart.
-        spot: Spot,
+        sum_layout: SumLayout,
     },
 }
 
@@ -71,7 +71,7 @@ pub enum Sort {
 /// Where a sum's variants stand, and what tells them apart. Offsets count from the sum's first
 /// byte.
 #[derive(Drop)]
-pub struct Spot {
+pub struct SumLayout {
     /// Where `Ok` or `Some` starts, in bytes.
     pub ok: u64,
     /// Where `Err` or `None` starts, in bytes.

@@ -5,7 +5,7 @@ ghost use Rattle.abi_layout.specs.Prims.{scalar_of, integer, align_of, zero_byte
 
 use crate::prim::Primitive as Prim;
 use crate::scalar::{Integer, Scalar, Width};
-use abi_bits::{BitMask, ForbiddenValues, Pattern, SaturatingAddValue};
+use abi_bits::{BitMask, ForbiddenValues, MAX_SIZE, Pattern, SaturatingAddValue};
 use abi_det::{Layout, RawLayout};
 use abi_num::{Items, OutOfMemory, Target};
 use std::alloc::Global;
@@ -133,7 +133,7 @@ fn forbidden_of(alloc: Global, scalar: Scalar) -> Result<ForbiddenValues, OutOfM
 #[tactic(auto, using(crate::proofs::Zeros::one_zero_more, crate::proofs::Zeros::zeros_are_pattern))]
 fn zero_pattern(alloc: Global, width: u64) -> Result<Pattern, OutOfMemory>
     requires some { 0 < width }
-    requires within { width ≤ 1048576 }
+    requires within { width ≤ MAX_SIZE }
     ensures { IfOk result (λ pattern. pattern ≡ zero_bytes width) }
 {
     let mut pairs = Items::new(alloc);

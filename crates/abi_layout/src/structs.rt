@@ -56,7 +56,7 @@ fn requested(part: u32, align: Option<u64>) -> Result<Option<Alignment>, DescErr
 fn open_struct(alloc: Global, fields: &[Layout]) -> Result<Option<RawLayout>, OutOfMemory>
     requires { AreLawful fields.now }
     ensures { IfOk result (λ found. MatchOption found
-        (1048576 < end_of 0 fields.now)
+        (MAX_SIZE < end_of 0 fields.now)
         (λ raw. (frame raw ≡ opened fields.now) × IsOpen (frame raw))) }
 {
     match fields.split_first() {
@@ -78,7 +78,7 @@ fn with_fields(
     requires built { IsOpen (frame raw) }
     requires lawful { AreLawful others.now }
     ensures { IfOk result (λ found. MatchOption found
-        (1048576 < end_of raw.size others.now)
+        (MAX_SIZE < end_of raw.size others.now)
         (λ whole. (frame whole ≡ folded (frame raw) others.now) × IsOpen (frame whole))) }
 {
     let mut whole = raw;
@@ -93,7 +93,7 @@ fn with_fields(
 
 /// Where a field that comes after `end` bytes ends.
 pub(crate) fn end_after(end: u64, field: &Layout) -> u64
-    requires { end ≤ 1048576 }
+    requires { end ≤ MAX_SIZE }
     ensures { result ≡ start_after end field.now + field.now.size }
 {
     end.next_multiple_of(field.align()) + field.size()

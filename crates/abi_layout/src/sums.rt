@@ -1,5 +1,5 @@
 ghost use Rattle.std.specs.Prelude.{◌≡◌, ◌≢◌, None, Some, IfOk, IfErr};
-ghost use Rattle.abi_det.specs.Owed.{IsOwed};
+ghost use Rattle.abi_det.specs.SoundPlacement.{IsSoundPlacement};
 ghost use Rattle.abi_det.specs.Written.{written_placement, written_sum};
 ghost use Rattle.abi_layout.specs.Faults.{IsFault, sum_fault};
 
@@ -19,7 +19,7 @@ pub fn packed_sum(
 ) -> Result<(Placement, Layout), DescError>
     ensures faultless { IfOk result (λ _. sum_fault rules part ok.now err.now ≡ None) }
     ensures placement { IfOk result (λ sum. sum.0 ≡ written_placement rules ok.now err.now) }
-    ensures owed { IfOk result (λ sum. IsOwed ok.now err.now sum.0) }
+    ensures sound { IfOk result (λ sum. IsSoundPlacement ok.now err.now sum.0) }
     ensures layout { IfOk result (λ sum. sum.1 ≡ written_sum rules ok.now err.now) }
     ensures err { IfErr result (IsFault (sum_fault rules part ok.now err.now)) }
 {

@@ -428,7 +428,11 @@ fn targets_and_numbers_of_parts_come_first(rt: HostRuntime) -> Result<(), Fail> 
 /// The names of the part's variants, where both start, and its size; `None` where it is no sum.
 fn sum_told(part: &Part) -> Option<(Sort, u64, u64, u64)> {
     match part {
-        Part::Sum { names, spot, .. } => Some((*names, spot.ok, spot.err, spot.size)),
+        Part::Sum {
+            names,
+            sum_layout,
+            ..
+        } => Some((*names, sum_layout.ok, sum_layout.err, sum_layout.size)),
         Part::Scalar(_) => None,
         Part::Struct { .. } => None,
         Part::Array { .. } => None,

@@ -8,21 +8,22 @@ ghost use Rattle.abi_layout.specs.Frames.{written_frame, written_frames};
 ghost use Rattle.abi_layout.specs.Prims.{scalar_frame};
 ghost use Rattle.abi_layout.specs.Structs.{struct_frame};
 ghost use Rattle.abi_layout.specs.Trees.{tree, branches, sides, parts, parts_in};
-ghost use Rattle.abi_layout.specs.Plans.{spot_at, spot_of, planned, planned_in, is_second, IsNamed, AreNamed};
+ghost use Rattle.abi_layout.specs.Plans.{sum_layout_at, sum_layout_of, shape_of, shapes_of, is_second, IsNamed, AreNamed};
 ghost use Rattle.abi_layout.specs.Shape.{scalar as scalar_shape, fields as fields_shape, sum};
-ghost use Rattle.abi_layout.specs.Sums.{placed, written_sums, written_sums_in};
+ghost use Rattle.abi_layout.specs.Sums.{numbered_placement, written_sums, written_sums_in};
 ghost use Rattle.abi_layout.specs.PartView.{shape, shapes};
 
 use crate::desc::{Desc, Field};
 use crate::desc_error::DescError;
-use crate::part::{Compound, Part, PartField, PartFields, Sort, Spot};
+use crate::numbering::MAX_PARTS;
+use crate::part::{Compound, Part, PartField, PartFields, Sort, SumLayout};
 use crate::placed::Placed;
 use crate::primitives::{scalar_layout, scalar_of};
 use crate::scalar::Scalar;
 use crate::structs::struct_layout;
 use crate::sums::packed_sum;
 use abi_det::{Layout, Placement, Rules};
-use abi_num::{Items, OutOfMemory, Target};
+use abi_num::{Items, MAX_ALIGN, OutOfMemory, Target};
 use std::alloc::Global;
 
 /// A part of a description, laid out.
@@ -60,9 +61,9 @@ pub(crate) fn lay_out_part(
     sums: &mut Vec<Placed>,
 ) -> Result<LaidPart, DescError>
     requires row { IsTrue (is_row target.now) }
-    requires room { first + parts (tree desc.now) ≤ 4096 }
+    requires room { first + parts (tree desc.now) ≤ MAX_PARTS }
     ensures faultless { OnOk result (part_fault rules target.now first (tree desc.now) ≡ None) }
-    ensures part { IfOk result (λ f. shape f.part ≡ planned rules target.now (tree desc.now)) }
+    ensures part { IfOk result (λ f. shape f.part ≡ shape_of rules target.now (tree desc.now)) }
     ensures named { IfOk result (λ f. IsNamed (shape f.part)) }
     ensures layout { IfOk result (λ f. f.layout ≡ written_frame rules target.now (tree desc.now)) }
     ensures next { IfOk result (λ f. f.next ≡ first + parts (tree desc.now)) }
@@ -128,11 +129,11 @@ fn lay_out_fields(
     sums: &mut Vec<Placed>,
 ) -> Result<LaidFields, DescError>
     requires row { IsTrue (is_row target.now) }
-    requires room { first + parts_in (branches fields.now) ≤ 4096 }
+    requires room { first + parts_in (branches fields.now) ≤ MAX_PARTS }
     ensures faultless { OnOk result
         (part_fault_in rules target.now first (branches fields.now) ≡ None) }
     ensures fields { IfOk result (λ f. shapes f.fields
-        ≡ planned_in rules target.now 0 (branches fields.now)) }
+        ≡ shapes_of rules target.now 0 (branches fields.now)) }
     ensures named { IfOk result (λ f. AreNamed (shapes f.fields)) }
     ensures layouts { IfOk result (λ f. f.layouts
         ≡ written_frames rules target.now (branches fields.now)) }
@@ -170,7 +171,7 @@ fn start_after(end: u64, field: &Layout) -> u64
     requires { end ≤ 2 ^ 33 }
     ensures same { result ≡ start_after end field.now }
     ensures later { end ≤ result }
-    ensures near { result < end + 65536 }
+    ensures near { result < end + MAX_ALIGN }
 {
     end.next_multiple_of(field.align())
 }
@@ -185,7 +186,7 @@ fn lay_out_struct(
 ) -> Result<LaidPart, DescError>
     requires lawful { AreLawful fields.layouts }
     requires named { AreNamed (shapes fields.fields) }
-    requires room { fields.next < 4096 }
+    requires room { fields.next < MAX_PARTS }
     ensures faultless { IfOk result (λ _. struct_fault fields.next fields.layouts align ≡ None) }
     ensures part { IfOk result (λ f. shape f.part
         ≡ fields_shape Compound.Struct (struct_frame fields.layouts align).size
@@ -208,7 +209,7 @@ fn lay_out_struct(
 
 /// Lays out the packed sum of two parts, whose number is the one after the second's, and puts it
 /// among `sums` at the index `at`. Refused with the fault of the sum itself.
-#[tactic(auto, using(crate::proofs::Walking::spot_made, crate::proofs::Steps::no_memory))]
+#[tactic(auto, using(crate::proofs::Walking::sum_layout_made, crate::proofs::Steps::no_memory))]
 fn lay_out_sum(
     alloc: Global,
     rules: Rules,
@@ -221,24 +222,24 @@ fn lay_out_sum(
     requires ok { IsNamed (shape ok.part) }
     requires err { IsNamed (shape err.part) }
     requires second { is_second names (shape err.part) ≡ true }
-    requires room { err.next < 4096 }
+    requires room { err.next < MAX_PARTS }
     requires index { at ≤ vec_len sums.old }
     ensures faultless { IfOk result (λ _. sum_fault rules err.next ok.layout err.layout ≡ None) }
     ensures part { IfOk result (λ f. shape f.part
-        ≡ sum names (sides (shape ok.part) (shape err.part)) (spot_of rules ok.layout err.layout)) }
+        ≡ sum names (sides (shape ok.part) (shape err.part)) (sum_layout_of rules ok.layout err.layout)) }
     ensures named { IfOk result (λ f. IsNamed (shape f.part)) }
     ensures layout { IfOk result (λ f. f.layout ≡ written_sum rules ok.layout err.layout) }
     ensures next { IfOk result (λ f. f.next ≡ err.next + 1) }
     ensures sums { OnOk result (sums.new.items
         ≡ insert sums.old.items at
-        (placed err.next (written_placement rules ok.layout err.layout))) }
+        (numbered_placement err.next (written_placement rules ok.layout err.layout))) }
     ensures err { IfErr result (IsFault (sum_fault rules err.next ok.layout err.layout)) }
 {
     let number = err.next;
     let (placement, layout) = packed_sum(alloc, rules, number, &ok.layout, &err.layout)?;
-    let (spot, placed) = taken_apart(alloc, number, layout.size(), placement)?;
+    let (sum_layout, placed) = taken_apart(alloc, number, layout.size(), placement)?;
     insert(sums, at, placed)?;
-    let part = sum_part(alloc, names, ok.part, err.part, spot)?;
+    let part = sum_part(alloc, names, ok.part, err.part, sum_layout)?;
     Ok(LaidPart {
         part,
         layout,
@@ -253,14 +254,14 @@ fn taken_apart(
     number: u32,
     size: u64,
     placement: Placement,
-) -> Result<(Spot, Placed), OutOfMemory>
+) -> Result<(SumLayout, Placed), OutOfMemory>
     requires ok { placement.front + placement.ok_shift < 2 ^ 64 }
     requires err { placement.front + placement.err_shift < 2 ^ 64 }
-    ensures spot { IfOk result (λ f. f.0 ≡ spot_at size placement) }
-    ensures placed { IfOk result (λ f. f.1 ≡ placed number placement) }
+    ensures sum_layout { IfOk result (λ f. f.0 ≡ sum_layout_at size placement) }
+    ensures placed { IfOk result (λ f. f.1 ≡ numbered_placement number placement) }
 {
     let determinant = placement.determinant.copy(alloc)?;
-    let spot = Spot {
+    let sum_layout = SumLayout {
         ok: placement.front + placement.ok_shift,
         err: placement.front + placement.err_shift,
         size,
@@ -276,7 +277,7 @@ fn taken_apart(
         determinant: placement.determinant,
         refusals: placement.refusals,
     };
-    Ok((spot, placed))
+    Ok((sum_layout, placed))
 }
 
 /// Puts a sum among others, at that index.
@@ -296,9 +297,9 @@ fn sum_part(
     names: Sort,
     ok: Part,
     err: Part,
-    spot: Spot,
+    sum_layout: SumLayout,
 ) -> Result<Part, OutOfMemory>
-    ensures { IfOk result (λ part. shape part ≡ sum names (sides (shape ok) (shape err)) spot) }
+    ensures { IfOk result (λ part. shape part ≡ sum names (sides (shape ok) (shape err)) sum_layout) }
 {
     let ok = Box::new(alloc, ok)?;
     let err = Box::new(alloc, err)?;
@@ -306,6 +307,6 @@ fn sum_part(
         names,
         ok,
         err,
-        spot,
+        sum_layout,
     })
 }

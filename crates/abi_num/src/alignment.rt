@@ -3,7 +3,10 @@ ghost use Rattle.abi_num.specs.Alignment.{IsAlignment};
 
 use std::marker::Model;
 
-/// An alignment in bytes: a power of two up to `Alignment::GREATEST`.
+/// The greatest alignment, in bytes.
+pub const MAX_ALIGN: u64 = 65536;
+
+/// An alignment in bytes: a power of two up to `MAX_ALIGN`.
 #[derive(Debug, Clone, Copy, PartialEq, Eq)]
 pub struct Alignment {
     bytes: u64,
@@ -23,15 +26,12 @@ impl Model for Alignment {
 }
 
 impl Alignment {
-    /// The greatest alignment, in bytes.
-    pub const GREATEST: u64 = 65536;
-
-    /// The alignment of `n` bytes; `None` exactly where `n` is no power of two up to 65,536.
+    /// The alignment of `n` bytes; `None` exactly where `n` is no power of two up to `MAX_ALIGN`.
     pub fn new(n: u64) -> Option<Alignment>
         ensures valid { IsSome result ↔ IsAlignment n }
         ensures value { IfSome result (λ alignment. alignment ≡ n) }
     {
-        if n <= Self::GREATEST && n.is_power_of_two() {
+        if n <= MAX_ALIGN && n.is_power_of_two() {
             Some(Alignment { bytes: n })
         } else {
             None

@@ -9,7 +9,7 @@ mod target;
 mod text;
 pub mod unsigned;
 
-pub use alignment::Alignment;
+pub use alignment::{Alignment, MAX_ALIGN};
 pub use items::Items;
 pub use out_of_memory::OutOfMemory;
 pub use target::Target;

@@ -1,4 +1,4 @@
--- The plan of a description without a fault is sound, and covers the written frame: no value holds a free bit of the frame,
+-- The plan of a description without a fault is consistent, and covers the written frame: no value holds a free bit of the frame,
 -- and bytes that show a value match none of its items.
 use Rattle.std.specs.List.{list_any}
 use Rattle.std.specs.Int.{bit_at, next_multiple_of}
@@ -15,17 +15,17 @@ use Rattle.abi_bits.proofs.Entries.{entries_at, zero_past}
 use Rattle.abi_bits.proofs.Masks.{zero_or, or_zero}
 use Rattle.abi_det.specs.Frame.{Frame}
 use Rattle.abi_det.specs.Offers.{or_else, Rules}
-use Rattle.abi_det.specs.Owed as owed
+use Rattle.abi_det.specs.SoundPlacement as placements
 use Rattle.abi_det.specs.Roles.{union_size}
 use Rattle.abi_det.specs.State.{is_tested}
 use Rattle.abi_det.specs.Written.{written_placement, written_sum}
 use Rattle.abi_det.specs.declared.placements.Placement.{Placement}
-use Rattle.abi_det.proofs.Owed.{owed as placement_owes}
+use Rattle.abi_det.proofs.SoundPlacements.{placements_sound}
 use Rattle.abi_det.proofs.Lawful.{parts as lawful_parts}
 use Rattle.abi_layout.specs.Builders.{start_after, whole_between, byte_from}
 use Rattle.abi_layout.specs.Faults.{size_fault, align_fault, part_fault, part_fault_in}
 use Rattle.abi_layout.specs.Frames.{written_frame, written_frames}
-use Rattle.abi_layout.specs.Plans.{planned, planned_in, spot_of}
+use Rattle.abi_layout.specs.Plans.{shape_of, shapes_of, sum_layout_of}
 use Rattle.abi_layout.specs.Prims.{scalar_of, scalar_frame}
 use Rattle.abi_layout.specs.Shape.{Shape, scalar, sum, size, size_in}
 use Rattle.abi_layout.specs.Structs.{positions, end_of, fields_align, fields_byte, fields_items, struct_frame}
@@ -37,10 +37,10 @@ use Rattle.abi_layout.specs.declared.prim.Primitive.{Primitive}
 use Rattle.abi_layout.proofs.Bytes.{whole_past, whole_before, byte_inside, byte_before}
 use Rattle.abi_layout.proofs.Faultless.{no_fault, struct_end}
 use Rattle.abi_layout.proofs.Sounding.{part_sound}
-use Rattle.abi_pack.specs.Image.{Image, has, from}
+use Rattle.abi_pack.specs.ByteMap.{ByteMap, has, seen_from}
 use Rattle.abi_pack.specs.Plain.{Plain, Plains, unit, integer, boolean, order, bytes, list, variant, end, more}
 use Rattle.abi_pack.specs.Shows.{Shows, ShowIn, holds, holds_in, start_of}
-use Rattle.abi_pack.specs.Sound.{IsSound, AreSound, IsSide}
+use Rattle.abi_pack.specs.Consistent.{IsConsistent, AreConsistent, IsSide}
 use Rattle.abi_pack.specs.Variants.{truth_of, held_at}
 use Rattle.abi_pack.proofs.Choice.{in_gap, in_field, behind_field, three_places, neither, and_no}
 use Rattle.abi_pack.proofs.Stored.{scalar_allowed}
@@ -48,7 +48,7 @@ use Rattle.abi_pack.proofs.TreeValues.{same_size, moved}
 
 pub record Covers (f : Frame) (s : Shape) : Type 0 where
   pub free : (v : Plain) (i k : ℕ) → k < 8 → has f.free i k ≡ true → holds s v i k ≡ false
-  pub items : (v : Plain) (g : Image) → Shows s v g → list_any (is_match g) f.forbids ≡ false
+  pub items : (v : Plain) (g : ByteMap) → Shows s v g → list_any (is_match g) f.forbids ≡ false
 
 -- ---- bits of bytes
 
@@ -78,7 +78,7 @@ prim_covers target p = record {
 -- ---- a packed sum
 
 -- what is free where a part stands at `shift` is held by none of its values there
-free_not_held : (f : Frame) (s : Shape) (v : Plain) (shift : ℕ) → size s ≡ f.size → Covers f s → (i k : ℕ) → k < 8 → owed.is_free_at f shift i k ≡ true
+free_not_held : (f : Frame) (s : Shape) (v : Plain) (shift : ℕ) → size s ≡ f.size → Covers f s → (i k : ℕ) → k < 8 → placements.is_free_at f shift i k ≡ true
     → held_at shift (size s) (λ j l. holds s v j l) i k ≡ false
 free_not_held f s v shift len c i k small free =
     three_places i shift (size s)
@@ -87,15 +87,15 @@ free_not_held f s v shift len c i k small free =
     ∙ c.free v (i - shift) k small (sym (in_field i shift f.size true (has f.free (i - shift) k) true g (omega (arith, len))) ∙ free))
     (λ a. behind_field i shift (size s) false (holds s v (i - shift) k) false a)
 
--- what a placement owes to each variant
-owed_side : (f g : Frame) (p : Placement) → owed.IsOwed f g p → (first : Bool)
-    → owed.IsSide p.determinant.test p.exported (union_size f g + p.front) (sides f g first) (cond first (p.front + p.ok_shift) (p.front + p.err_shift)) (truth_of p.determinant first)
-owed_side f g p o true = o.ok_side
-owed_side f g p o false = o.err_side
+-- a sound placement leaves each variant its bytes
+placed_side : (f g : Frame) (p : Placement) → placements.IsSoundPlacement f g p → (first : Bool)
+    → placements.IsSide p.determinant.test p.exported (union_size f g + p.front) (sides f g first) (cond first (p.front + p.ok_shift) (p.front + p.err_shift)) (truth_of p.determinant first)
+placed_side f g p o true = o.ok_side
+placed_side f g p o false = o.err_side
 
 start_is : (rules : Rules) (f g : Frame) (first : Bool)
     → cond first ((written_placement rules f g).front + (written_placement rules f g).ok_shift) ((written_placement rules f g).front + (written_placement rules f g).err_shift)
-    ≡ start_of (spot_of rules f g) first
+    ≡ start_of (sum_layout_of rules f g) first
 start_is rules f g true = refl
 start_is rules f g false = refl
 
@@ -104,32 +104,32 @@ pub record AreVariants (f g : Frame) (a b : Shape) : Type 0 where
   pub size_ : (first : Bool) → size (sides a b first) ≡ (sides f g first).size
   pub cover : (first : Bool) → Covers (sides f g first) (sides a b first)
 
-spot_side : (rules : Rules) (f g : Frame) (a b : Shape) → AreVariants f g a b → owed.IsOwed f g (written_placement rules f g) → (first : Bool)
-    → IsSide (sides a b first) first (spot_of rules f g)
-spot_side rules f g a b are o first =
+sum_layout_side : (rules : Rules) (f g : Frame) (a b : Shape) → AreVariants f g a b → placements.IsSoundPlacement f g (written_placement rules f g) → (first : Bool)
+    → IsSide (sides a b first) first (sum_layout_of rules f g)
+sum_layout_side rules f g a b are o first =
     let p : Placement = written_placement rules f g in
-    let side = owed_side f g p o first in
+    let side = placed_side f g p o first in
     let e = start_is rules f g first in
     let len = are.size_ first in
     let c : Covers (sides f g first) (sides a b first) = are.cover first in
     record {
       inside = rw (← e, len) side.inside;
-      carried = λ carried v i k small own. free_not_held (sides f g first) (sides a b first) v (start_of (spot_of rules f g) first) len c i k small
-          (rw (← e) (side.carried carried i k small own));
+      imposed = λ imposed v i k small own. free_not_held (sides f g first) (sides a b first) v (start_of (sum_layout_of rules f g) first) len c i k small
+          (rw (← e) (side.imposed imposed i k small own));
       forbids = λ lacks v h holds_ shown.
-          let some : list_any (is_match (from (start_of (spot_of rules f g) first) h)) (sides f g first).forbids ≡ true = rw (← e) (side.forbids lacks h holds_) in
-          let none : list_any (is_match (from (start_of (spot_of rules f g) first) h)) (sides f g first).forbids ≡ false =
-          c.items v (from (start_of (spot_of rules f g) first) h) shown in absurd (cc);
+          let some : list_any (is_match (seen_from (start_of (sum_layout_of rules f g) first) h)) (sides f g first).forbids ≡ true = rw (← e) (side.forbids lacks h holds_) in
+          let none : list_any (is_match (seen_from (start_of (sum_layout_of rules f g) first) h)) (sides f g first).forbids ≡ false =
+          c.items v (seen_from (start_of (sum_layout_of rules f g) first) h) shown in absurd (cc);
     }
 
-sum_free : (rules : Rules) (names : Sort) (f g : Frame) (a b : Shape) → AreVariants f g a b → owed.IsOwed f g (written_placement rules f g)
-    → (v : Plain) (i k : ℕ) → k < 8 → has (written_placement rules f g).exported i k ≡ true → holds (sum names (sides a b) (spot_of rules f g)) v i k ≡ false
+sum_free : (rules : Rules) (names : Sort) (f g : Frame) (a b : Shape) → AreVariants f g a b → placements.IsSoundPlacement f g (written_placement rules f g)
+    → (v : Plain) (i k : ℕ) → k < 8 → has (written_placement rules f g).exported i k ≡ true → holds (sum names (sides a b) (sum_layout_of rules f g)) v i k ≡ false
 sum_free rules names f g a b are o (variant kind first v) i k small free =
     let p : Placement = written_placement rules f g in
-    let side = owed_side f g p o first in
+    let side = placed_side f g p o first in
     let bit : bit_at (mask_at p.exported i) k ≡ 1 = eqb-true (bit_at (mask_at p.exported i) k) 1 free in
-    neither (held_at (start_of (spot_of rules f g) first) (size (sides a b first)) (λ j l. holds (sides a b first) v j l) i k) _
-    (free_not_held (sides f g first) (sides a b first) v (start_of (spot_of rules f g) first) (are.size_ first) (are.cover first) i k small
+    neither (held_at (start_of (sum_layout_of rules f g) first) (size (sides a b first)) (λ j l. holds (sides a b first) v j l) i k) _
+    (free_not_held (sides f g first) (sides a b first) v (start_of (sum_layout_of rules f g) first) (are.size_ first) (are.cover first) i k small
     (rw (← start_is rules f g first) (side.exports i k small bit)))
     (and_no _ (is_tested p.determinant.test i k) (o.kept i k small bit))
 sum_free rules names f g a b are o unit i k small free = refl
@@ -139,8 +139,8 @@ sum_free rules names f g a b are o (order x) i k small free = refl
 sum_free rules names f g a b are o (bytes x) i k small free = refl
 sum_free rules names f g a b are o (list vs) i k small free = refl
 
-sum_covers : (rules : Rules) (names : Sort) (f g : Frame) (a b : Shape) → AreVariants f g a b → owed.IsOwed f g (written_placement rules f g)
-    → Covers (written_sum rules f g) (sum names (sides a b) (spot_of rules f g))
+sum_covers : (rules : Rules) (names : Sort) (f g : Frame) (a b : Shape) → AreVariants f g a b → placements.IsSoundPlacement f g (written_placement rules f g)
+    → Covers (written_sum rules f g) (sum names (sides a b) (sum_layout_of rules f g))
 unfolding written_sum
 sum_covers rules names f g a b are o = record {
   free = λ v i k small free. sum_free rules names f g a b are o v i k small free;
@@ -149,12 +149,12 @@ sum_covers rules names f g a b are o = record {
 
 -- ---- a struct
 
--- each field's shape covers its frame, whose free bits lie within it, and is sound
+-- each field's shape covers its frame, whose free bits lie within it, and is consistent
 abbrev pub AllCover : Rules → Target → Branches → Type 0
 AllCover rules target trees.none = Unit {0}
 AllCover rules target (trees.field name t fs) =
-    Covers (written_frame rules target t) (planned rules target t)
-    × IsSound (planned rules target t)
+    Covers (written_frame rules target t) (shape_of rules target t)
+    × IsConsistent (shape_of rules target t)
     × ((at : ℕ) → (written_frame rules target t).size ≤ at → mask_at (written_frame rules target t).free at ≡ 0)
     × AllCover rules target fs
 
@@ -181,21 +181,21 @@ abbrev IsFieldBit : ℕ → List Frame → ℕ → ℕ → ℕ → Type 0
 IsFieldBit before fs to at k = eqb (bit_at (bit_or (fields_byte (positions before fs) at) (whole_between (end_of before fs) to at)) k) 1 ≡ true
 
 fields_free : (rules : Rules) (target : Target) (before to : ℕ) (fs : Branches) (vs : Plains) (at i k : ℕ) → AllCover rules target fs → k < 8 → at ≡ before + i
-    → IsFieldBit before (written_frames rules target fs) to at k → holds_in (planned_in rules target before fs) vs i k ≡ false
+    → IsFieldBit before (written_frames rules target fs) to at k → holds_in (shapes_of rules target before fs) vs i k ≡ false
 fields_free rules target before to trees.none vs at i k all small e h = refl
 fields_free rules target before to (trees.field name t fs) end at i k all small e h = refl
 fields_free rules target before to (trees.field name t fs) (more v vs) at i k all small e h =
     let f = written_frame rules target t in
     let start = start_after before f in
     let gap : ℕ = start - before in
-    let s : Shape = planned rules target t in
+    let s : Shape = shape_of rules target t in
     let le = after_end before f in
     let len : size s ≡ f.size = same_size rules target t in
     let fs' : List Frame = written_frames rules target fs in
     let last_end : ℕ = end_of (start + f.size) fs' in
     let grown : start + f.size ≤ last_end = end_grows (start + f.size) fs' in
     let own : Bool = holds s v (i - gap) k in
-    let rest : Bool = holds_in (planned_in rules target (start + f.size) fs) vs (i - (gap + size s)) k in
+    let rest : Bool = holds_in (shapes_of rules target (start + f.size) fs) vs (i - (gap + size s)) k in
     three_places i gap (size s)
     (λ early. in_gap i gap (size s) false own rest early)
     (λ past inside.
@@ -218,54 +218,54 @@ fields_free rules target before to (trees.field name t fs) (more v vs) at i k al
 
 -- ---- items that stand further on
 
-moved_matched : (by : ℕ) (ps : List Pair) (f : Image) → is_matched (moved_pairs by ps) f ≡ is_matched ps (from by f)
+moved_matched : (by : ℕ) (ps : List Pair) (f : ByteMap) → is_matched (moved_pairs by ps) f ≡ is_matched ps (seen_from by f)
 moved_matched by [] f = refl
 moved_matched by (p ∷ ps) f =
     let here : f (p.0 + by) ≡ f (by + p.0) = ap f (omega arith) in
-    let rest : is_matched (moved_pairs by ps) f ≡ is_matched ps (from by f) = moved_matched by ps f in rw (here, rest) refl
+    let rest : is_matched (moved_pairs by ps) f ≡ is_matched ps (seen_from by f) = moved_matched by ps f in rw (here, rest) refl
 
-moved_match : (by : ℕ) (it : Item) (f : Image) → is_match f (moved_item by it) ≡ is_match (from by f) it
+moved_match : (by : ℕ) (it : Item) (f : ByteMap) → is_match f (moved_item by it) ≡ is_match (seen_from by f) it
 moved_match by (pattern ps) f = moved_matched by ps f
 moved_match by (range at least greatest) f = let here : f (at + by) ≡ f (by + at) = ap f (omega arith) in rw here refl
 
-moved_any : (by : ℕ) (its : List Item) (f : Image) → list_any (is_match f) (map (moved_item by) its) ≡ list_any (is_match (from by f)) its
+moved_any : (by : ℕ) (its : List Item) (f : ByteMap) → list_any (is_match f) (map (moved_item by) its) ≡ list_any (is_match (seen_from by f)) its
 moved_any by [] f = refl
 moved_any by (it ∷ its) f = rw (moved_match by it f, moved_any by its f) refl
 
-joined_none : (f : Image) (xs ys : List Item) → list_any (is_match f) xs ≡ false → list_any (is_match f) ys ≡ false → list_any (is_match f) (xs ++ ys) ≡ false
+joined_none : (f : ByteMap) (xs ys : List Item) → list_any (is_match f) xs ≡ false → list_any (is_match f) ys ≡ false → list_any (is_match f) (xs ++ ys) ≡ false
 joined_none f xs ys a b = list_any-append (is_match f) xs ys ∙ rw (a, b) refl
 
 -- f tells the struct's bytes, g those after `before` of them
-fields_allowed : (rules : Rules) (target : Target) (before : ℕ) (fs : Branches) (vs : Plains) (f g : Image) → AllCover rules target fs → ((i : ℕ) → g i ≡ f (before + i))
-    → ShowIn (planned_in rules target before fs) vs g → list_any (is_match f) (fields_items (positions before (written_frames rules target fs))) ≡ false
+fields_allowed : (rules : Rules) (target : Target) (before : ℕ) (fs : Branches) (vs : Plains) (f g : ByteMap) → AllCover rules target fs → ((i : ℕ) → g i ≡ f (before + i))
+    → ShowIn (shapes_of rules target before fs) vs g → list_any (is_match f) (fields_items (positions before (written_frames rules target fs))) ≡ false
 fields_allowed rules target before trees.none vs f g all e shown = refl
 fields_allowed rules target before (trees.field name t fs) (more v vs) f g all e shown =
     let w = written_frame rules target t in
     let start = start_after before w in
     let gap : ℕ = start - before in
-    let s : Shape = planned rules target t in
+    let s : Shape = shape_of rules target t in
     let le = after_end before w in
     let len : size s ≡ w.size = same_size rules target t in
-    let here : from start f ≡ from gap g = moved before start gap f g e (omega (arith, le)) in
+    let here : seen_from start f ≡ seen_from gap g = moved before start gap f g e (omega (arith, le)) in
     joined_none f (map (moved_item start) w.forbids) (fields_items (positions (start + w.size) (written_frames rules target fs)))
-    (moved_any start w.forbids f ∙ rw here (all.0.items v (from gap g) shown.0))
-    (fields_allowed rules target (start + w.size) fs vs f (from (gap + size s) g) all.3
+    (moved_any start w.forbids f ∙ rw here (all.0.items v (seen_from gap g) shown.0))
+    (fields_allowed rules target (start + w.size) fs vs f (seen_from (gap + size s) g) all.3
     (λ i. e (gap + size s + i) ∙ ap f (omega (arith, le, len))) shown.1)
 fields_allowed rules target before (trees.field name t fs) end f g all e shown = absurd shown
 
 -- ---- the struct itself
 
-fields_size : (rules : Rules) (target : Target) (before : ℕ) (fs : Branches) → before + size_in (planned_in rules target before fs) ≡ end_of before (written_frames rules target fs)
+fields_size : (rules : Rules) (target : Target) (before : ℕ) (fs : Branches) → before + size_in (shapes_of rules target before fs) ≡ end_of before (written_frames rules target fs)
 fields_size rules target before trees.none = omega arith
 fields_size rules target before (trees.field name t fs) =
     let f = written_frame rules target t in
     let start = start_after before f in
     let le = after_end before f in
-    let here : size (planned rules target t) ≡ f.size = same_size rules target t in
+    let here : size (shape_of rules target t) ≡ f.size = same_size rules target t in
     let rest = fields_size rules target (start + f.size) fs in
     omega (arith, le, here, rest)
 
-fields_sound : (rules : Rules) (target : Target) (before : ℕ) (fs : Branches) → AllCover rules target fs → AreSound (planned_in rules target before fs)
+fields_sound : (rules : Rules) (target : Target) (before : ℕ) (fs : Branches) → AllCover rules target fs → AreConsistent (shapes_of rules target before fs)
 fields_sound rules target before trees.none all = tt
 fields_sound rules target before (trees.field name t fs) all =
     (all.1, fields_sound rules target (start_after before (written_frame rules target t) + (written_frame rules target t).size) fs all.3)
@@ -279,7 +279,7 @@ within bits n i k h (inr le) =
     let m : mask_at (entries_below bits n) i ≡ 0 = entries_at bits n i ∙ rw past refl in absurd (no_bit k (rw m at h))
 
 struct_free : (rules : Rules) (target : Target) (label : Label) (fs : Branches) (align : Option ℕ) (v : Plain) (i k : ℕ) → AllCover rules target fs → k < 8
-    → has (struct_frame (written_frames rules target fs) align).free i k ≡ true → holds (planned rules target (trees.struct label fs align)) v i k ≡ false
+    → has (struct_frame (written_frames rules target fs) align).free i k ≡ true → holds (shape_of rules target (trees.struct label fs align)) v i k ≡ false
 unfolding struct_frame
 struct_free rules target label fs align (list vs) i k all small h =
     let frames : List Frame = written_frames rules target fs in
@@ -295,8 +295,8 @@ struct_free rules target label fs align (order x) i k all small h = refl
 struct_free rules target label fs align (bytes x) i k all small h = refl
 struct_free rules target label fs align (variant kind first v) i k all small h = refl
 
-struct_allowed : (rules : Rules) (target : Target) (label : Label) (fs : Branches) (align : Option ℕ) (v : Plain) (g : Image) → AllCover rules target fs
-    → Shows (planned rules target (trees.struct label fs align)) v g → list_any (is_match g) (struct_frame (written_frames rules target fs) align).forbids ≡ false
+struct_allowed : (rules : Rules) (target : Target) (label : Label) (fs : Branches) (align : Option ℕ) (v : Plain) (g : ByteMap) → AllCover rules target fs
+    → Shows (shape_of rules target (trees.struct label fs align)) v g → list_any (is_match g) (struct_frame (written_frames rules target fs) align).forbids ≡ false
 unfolding struct_frame
 struct_allowed rules target label fs align (list vs) g all shown = fields_allowed rules target 0 fs vs g g all (λ i. ap g (omega arith)) shown
 struct_allowed rules target label fs align _ g all shown = absurd shown
@@ -305,16 +305,16 @@ struct_allowed rules target label fs align _ g all shown = absurd shown
 
 pub record IsCovered (f : Frame) (s : Shape) : Type 0 where
   pub covers : Covers f s
-  pub sound : IsSound s
+  pub sound : IsConsistent s
 
-sum_covered : (rules : Rules) (names : Sort) (f g : Frame) (a b : Shape) → size a ≡ f.size → size b ≡ g.size → IsCovered f a → IsCovered g b → owed.IsSound f → owed.IsSound g
-    → IsCovered (written_sum rules f g) (sum names (sides a b) (spot_of rules f g))
+sum_covered : (rules : Rules) (names : Sort) (f g : Frame) (a b : Shape) → size a ≡ f.size → size b ≡ g.size → IsCovered f a → IsCovered g b → placements.IsWellFormed f → placements.IsWellFormed g
+    → IsCovered (written_sum rules f g) (sum names (sides a b) (sum_layout_of rules f g))
 sum_covered rules names f g a b na nb ca cb sf sg =
-    let o = placement_owes rules f g sf sg in
+    let o = placements_sound rules f g sf sg in
     let are : AreVariants f g a b = record { size_ = both_sizes; cover = both_cover } in
     record {
       covers = sum_covers rules names f g a b are o;
-      sound = (both_sound, record { each = spot_side rules f g a b are o; tested = o.tested });
+      sound = (both_sound, record { each = sum_layout_side rules f g a b are o; tested = o.tested });
     }
   where
     both_sizes : (first : Bool) → size (sides a b first) ≡ (sides f g first).size
@@ -325,20 +325,20 @@ sum_covered rules names f g a b na nb ca cb sf sg =
     both_cover true = ca.covers
     both_cover false = cb.covers
 
-    both_sound : (first : Bool) → IsSound (sides a b first)
+    both_sound : (first : Bool) → IsConsistent (sides a b first)
     both_sound true = ca.sound
     both_sound false = cb.sound
 
 mutual
   pub part_covered : (rules : Rules) (target : Target) (first : ℕ) (t : Tree) → is_row target ≡ true → part_fault rules target first t ≡ None
-      → IsCovered (written_frame rules target t) (planned rules target t)
+      → IsCovered (written_frame rules target t) (shape_of rules target t)
   part_covered rules target first (trees.prim p) row h = record { covers = prim_covers target p; sound = tt }
   part_covered rules target first (trees.struct label fs align) row h =
       let frames : List Frame = written_frames rules target fs in
       let whole : Option DescError = size_fault (first + parts_in fs) (written_frame rules target (trees.struct label fs align)) in
       let a = no_fault (part_fault_in rules target first fs) (or_else (align_fault (first + parts_in fs) align) whole) h in
       let all = parts_covered rules target first fs row a.0 in
-      let inside : size_in (planned_in rules target 0 fs) ≤ (struct_frame frames align).size =
+      let inside : size_in (shapes_of rules target 0 fs) ≤ (struct_frame frames align).size =
       omega (arith, fields_size rules target 0 fs, struct_end frames align) in
       record {
         covers = record {
@@ -354,7 +354,7 @@ mutual
       let whole : Option DescError = size_fault number (written_frame rules target (trees.sum names side)) in
       let a = no_fault (part_fault rules target first ok) (or_else (part_fault rules target (first + parts ok) err) whole) h in
       let b = no_fault (part_fault rules target (first + parts ok) err) whole a.1 in
-      sum_covered rules names (written_frame rules target ok) (written_frame rules target err) (planned rules target ok) (planned rules target err)
+      sum_covered rules names (written_frame rules target ok) (written_frame rules target err) (shape_of rules target ok) (shape_of rules target err)
       (same_size rules target ok) (same_size rules target err)
       (part_covered rules target first (side true) row a.0) (part_covered rules target (first + parts ok) (side false) row b.0)
       (part_sound rules target first ok row a.0) (part_sound rules target (first + parts ok) err row b.0)

@@ -13,7 +13,7 @@ use Rattle.abi_bits.specs.Mask.{mask_at}
 use Rattle.abi_det.specs.Offers.{Rules}
 use Rattle.abi_layout.specs.Faults.{part_fault, desc_fault}
 use Rattle.abi_layout.specs.Frames.{written_frame}
-use Rattle.abi_layout.specs.Plans.{planned}
+use Rattle.abi_layout.specs.Plans.{shape_of}
 use Rattle.abi_layout.specs.Shape.{Shape}
 use Rattle.abi_layout.specs.Trees.{Tree, parts}
 use Rattle.abi_layout.specs.declared.desc_error.DescError.{DescError}
@@ -21,7 +21,7 @@ use Rattle.abi_layout.specs.declared.desc_error.DescError.TheVariants as fault
 use Rattle.abi_det.proofs.Lawful.{size_bound}
 use Rattle.abi_layout.proofs.Sounding.{part_sound}
 use Rattle.abi_pack.specs.Agree.{Agree}
-use Rattle.abi_pack.specs.Image.{Image, AreBytes, bytes_of}
+use Rattle.abi_pack.specs.ByteMap.{ByteMap, AreBytes, bytes_of}
 use Rattle.abi_pack.specs.Laws.{bit_of, Holds, flipped, CanonicalLaw, UniqueLaw, FitLaw, HeldLaw, FlipLaw, FreeLaw, ChangeLaw, ItemLaw, PackedLaw, BackLaw}
 use Rattle.abi_pack.specs.Packed.{packed}
 use Rattle.abi_pack.specs.Plain.{Plain}
@@ -42,7 +42,7 @@ row_if false many rest h = absurd (cc)
 row_if true true rest h = absurd (cc)
 row_if true false rest h = (refl, h)
 
-pub faultless_covered : (rules : Rules) (target : Target) (t : Tree) → desc_fault rules target t ≡ None → IsCovered (written_frame rules target t) (planned rules target t)
+pub faultless_covered : (rules : Rules) (target : Target) (t : Tree) → desc_fault rules target t ≡ None → IsCovered (written_frame rules target t) (shape_of rules target t)
 unfolding desc_fault
 faultless_covered rules target t h =
     let d = row_if (is_row target) (nat_lt 4096 (parts t)) (part_fault rules target 0 t) h in
@@ -56,7 +56,7 @@ faultless_small rules target t h =
 
 -- ---- from the plan to the description
 
-pub tree_canonical : (rules : Rules) (target : Target) (t : Tree) (v : Plain) (f : Image) → AreBytes f → shape.IsCanonical (planned rules target t) v f
+pub tree_canonical : (rules : Rules) (target : Target) (t : Tree) (v : Plain) (f : ByteMap) → AreBytes f → shape.IsCanonical (shape_of rules target t) v f
     → IsCanonical rules target t v f
 tree_canonical rules target t v f b c = record {
   shows = (same_shows rules target t v f b).1 c.shows;
@@ -65,9 +65,9 @@ tree_canonical rules target t v f b c = record {
 
 -- the bytes that writing leaves are the value's canonical ones
 pub packed_image : (rules : Rules) (target : Target) (t : Tree) (v : Plain) → desc_fault rules target t ≡ None → fits target t v ≡ true
-    → IsImageOf rules target t v (packed (planned rules target t) v)
+    → IsImageOf rules target t v (packed (shape_of rules target t) v)
 packed_image rules target t v none fit =
-    let s : Shape = planned rules target t in
+    let s : Shape = shape_of rules target t in
     let sound = (faultless_covered rules target t none).sound in
     let fit_ : shape.fits s v ≡ true = sym (same_fits rules target t v) ∙ fit in
     let bytes = packed_small s v sound fit_ in
@@ -77,17 +77,17 @@ packed_image rules target t v none fit =
       canonical = tree_canonical rules target t v (bytes_of (packed s v)) bytes (packed_canonical s v sound fit_);
     }
 
-tree_held : (rules : Rules) (target : Target) (t : Tree) (v : Plain) (f g : Image) → desc_fault rules target t ≡ None → AreBytes f → AreBytes g
+tree_held : (rules : Rules) (target : Target) (t : Tree) (v : Plain) (f g : ByteMap) → desc_fault rules target t ≡ None → AreBytes f → AreBytes g
     → Shows rules target t v f → Shows rules target t v g → Agree (λ i k. holds rules target t v i k) (written_frame rules target t).size f g
 tree_held rules target t v f g none bf bg hf hg i k low small held =
-    same_held (planned rules target t) v f g (faultless_covered rules target t none).sound ((same_shows rules target t v f bf).0 hf) ((same_shows rules target t v g bg).0 hg)
+    same_held (shape_of rules target t) v f g (faultless_covered rules target t none).sound ((same_shows rules target t v f bf).0 hf) ((same_shows rules target t v g bg).0 hg)
     i k (rw (same_size rules target t) low) small (sym (same_holds rules target t v i k) ∙ held)
 
-tree_agree : (rules : Rules) (target : Target) (t : Tree) (v : Plain) (f g : Image) → desc_fault rules target t ≡ None → AreBytes f → AreBytes g
+tree_agree : (rules : Rules) (target : Target) (t : Tree) (v : Plain) (f g : ByteMap) → desc_fault rules target t ≡ None → AreBytes f → AreBytes g
     → Agree (λ i k. holds rules target t v i k) (written_frame rules target t).size f g → Shows rules target t v f → Shows rules target t v g
 tree_agree rules target t v f g none bf bg same hf =
     (same_shows rules target t v g bg).1
-    (agree (planned rules target t) v f g (faultless_covered rules target t none).sound bf bg
+    (agree (shape_of rules target t) v f g (faultless_covered rules target t none).sound bf bg
     (λ i k low small held. same i k (rw (same_size rules target t) at low) small (same_holds rules target t v i k ∙ held))
     ((same_shows rules target t v f bf).0 hf))
 
@@ -99,7 +99,7 @@ by_pair P m h i k low small =
     let bit : (8 * i + k) % 8 ≡ k = omega arith in
     subst (λ j. P j k) byte (subst (λ l. P ((8 * i + k) / 8) l) bit (h (8 * i + k) (omega arith)))
 
-agree_numbered : (rules : Rules) (target : Target) (t : Tree) (v : Plain) (f g : Image)
+agree_numbered : (rules : Rules) (target : Target) (t : Tree) (v : Plain) (f g : ByteMap)
     → ((n : ℕ) → n < 8 * (written_frame rules target t).size → Holds rules target t v n → bit_of f n ≡ bit_of g n)
     → Agree (λ i k. holds rules target t v i k) (written_frame rules target t).size f g
 agree_numbered rules target t v f g h i k low small held =
@@ -109,10 +109,10 @@ agree_numbered rules target t v f g h i k low small held =
 
 pub unique_law : UniqueLaw
 unique_law rules target t v w f b hv hw =
-    unique (planned rules target t) v w f ((same_shows rules target t v f b).0 hv) ((same_shows rules target t w f b).0 hw)
+    unique (shape_of rules target t) v w f ((same_shows rules target t v f b).0 hv) ((same_shows rules target t w f b).0 hw)
 
 pub fit_law : FitLaw
-fit_law rules target t v f b h = same_fits rules target t v ∙ shown_fits (planned rules target t) v f ((same_shows rules target t v f b).0 h)
+fit_law rules target t v f b h = same_fits rules target t v ∙ shown_fits (shape_of rules target t) v f ((same_shows rules target t v f b).0 h)
 
 pub item_law : ItemLaw
 item_law rules target t v f none b h = (faultless_covered rules target t none).covers.items v f ((same_shows rules target t v f b).0 h)
@@ -123,7 +123,7 @@ free_law rules target t v n none free held =
     let not_held : holds rules target t v (n / 8) (n % 8) ≡ false =
     same_holds rules target t v (n / 8) (n % 8) ∙ (faultless_covered rules target t none).covers.free v (n / 8) (n % 8) (omega arith) has_ in absurd (cc)
 
-canonical_bit : (rules : Rules) (target : Target) (t : Tree) (v : Plain) (f g : Image) → desc_fault rules target t ≡ None → AreBytes f → AreBytes g
+canonical_bit : (rules : Rules) (target : Target) (t : Tree) (v : Plain) (f g : ByteMap) → desc_fault rules target t ≡ None → AreBytes f → AreBytes g
     → IsCanonical rules target t v f → IsCanonical rules target t v g → (i k : ℕ) → i < (written_frame rules target t).size → k < 8
     → (holds rules target t v i k ≡ true) ⊎ (holds rules target t v i k ≡ false) → bit_at (f i) k ≡ bit_at (g i) k
 canonical_bit rules target t v f g none bf bg cf cg i k low small (inl held) = tree_held rules target t v f g none bf bg cf.shows cg.shows i k low small held
@@ -139,7 +139,7 @@ one_image rules target t v bs cs none b c =
 
 pub canonical_law : CanonicalLaw
 canonical_law rules target t v none fit =
-    let bs : List ℕ = packed (planned rules target t) v in
+    let bs : List ℕ = packed (shape_of rules target t) v in
     let is = packed_image rules target t v none fit in (bs, is, λ cs c. one_image rules target t v cs bs none c is)
 
 pub held_law : HeldLaw
@@ -171,17 +171,17 @@ back_law rules target t v w bs b = (
 abbrev AtPlace : ℕ → ℕ → Type 0
 AtPlace i m = ((i == m) ≡ true) × (i ≡ m) ⊎ ((i == m) ≡ false) × (i ≢ m)
 
-turned : (f : Image) (n i : ℕ) → (i == n / 8) ≡ true → flipped n f i ≡ bit_xor (f i) (2 ^ (n % 8))
+turned : (f : ByteMap) (n i : ℕ) → (i == n / 8) ≡ true → flipped n f i ≡ bit_xor (f i) (2 ^ (n % 8))
 turned f n i e = rw e refl
 
-kept : (f : Image) (n i : ℕ) → (i == n / 8) ≡ false → flipped n f i ≡ f i
+kept : (f : ByteMap) (n i : ℕ) → (i == n / 8) ≡ false → flipped n f i ≡ f i
 kept f n i e = rw e refl
 
-flipped_byte : (f : Image) (n i : ℕ) → AreBytes f → AtPlace i (n / 8) → flipped n f i < 256
+flipped_byte : (f : ByteMap) (n i : ℕ) → AreBytes f → AtPlace i (n / 8) → flipped n f i < 256
 flipped_byte f n i b (inl e) = rw (turned f n i e.0) (xor_lt 8 (f i) (2 ^ (n % 8)) (b i) (pow_below (n % 8) 8 (omega arith)))
 flipped_byte f n i b (inr e) = rw (kept f n i e.0) (b i)
 
-flipped_bytes : (f : Image) (n : ℕ) → AreBytes f → AreBytes (flipped n f)
+flipped_bytes : (f : ByteMap) (n : ℕ) → AreBytes f → AreBytes (flipped n f)
 flipped_bytes f n b i = flipped_byte f n i b (eqb_tells i (n / 8))
 
 other_bit : (x b k : ℕ) → k ≢ b → bit_at (bit_xor x (2 ^ b)) k ≡ bit_at x k
@@ -193,21 +193,21 @@ own_bit x b h =
     let bit : bit_at x b < 2 = bit_at-lt x b in
     let over : bit_at x b ≡ (bit_at x b + 1) % 2 = rw (bit_at_xor x (2 ^ b) b, bit_at-pow_same b) at h in absurd (omega arith)
 
-flipped_other : (f : Image) (n i k : ℕ) → (i ≡ n / 8 → k ≡ n % 8 → ⊥) → AtPlace i (n / 8) → bit_at (f i) k ≡ bit_at (flipped n f i) k
+flipped_other : (f : ByteMap) (n i k : ℕ) → (i ≡ n / 8 → k ≡ n % 8 → ⊥) → AtPlace i (n / 8) → bit_at (f i) k ≡ bit_at (flipped n f i) k
 flipped_other f n i k apart (inl e) = rw (turned f n i e.0) (sym (other_bit (f i) (n % 8) k (λ h. apart e.1 h)))
 flipped_other f n i k apart (inr e) = rw (kept f n i e.0) refl
 
 same_place : (m : ℕ) → (m == m) ≡ true
 same_place m = grind (arith, nat_tests)
 
-flip_held : (rules : Rules) (target : Target) (t : Tree) (v : Plain) (f : Image) (n : ℕ) → desc_fault rules target t ≡ None → AreBytes f
+flip_held : (rules : Rules) (target : Target) (t : Tree) (v : Plain) (f : ByteMap) (n : ℕ) → desc_fault rules target t ≡ None → AreBytes f
     → n < 8 * (written_frame rules target t).size → Shows rules target t v f → Holds rules target t v n → Shows rules target t v (flipped n f) → ⊥
 flip_held rules target t v f n none bytes low shown held after =
     let same : bit_at (f (n / 8)) (n % 8) ≡ bit_at (flipped n f (n / 8)) (n % 8) =
     tree_held rules target t v f (flipped n f) none bytes (flipped_bytes f n bytes) shown after (n / 8) (n % 8) (omega arith) (omega arith) held in
     own_bit (f (n / 8)) (n % 8) (rw (turned f n (n / 8) (same_place (n / 8))) at same)
 
-flip_free : (rules : Rules) (target : Target) (t : Tree) (v : Plain) (f : Image) (n : ℕ) → desc_fault rules target t ≡ None → AreBytes f
+flip_free : (rules : Rules) (target : Target) (t : Tree) (v : Plain) (f : ByteMap) (n : ℕ) → desc_fault rules target t ≡ None → AreBytes f
     → n < 8 * (written_frame rules target t).size → Shows rules target t v f
     → (holds rules target t v (n / 8) (n % 8) ≡ true) ⊎ (holds rules target t v (n / 8) (n % 8) ≡ false) → (Shows rules target t v (flipped n f) → ⊥) → Holds rules target t v n
 flip_free rules target t v f n none bytes low shown (inl held) lost = held

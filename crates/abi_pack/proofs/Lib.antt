@@ -1,6 +1,6 @@
 pub mod Agreed
 pub mod Canons
-pub mod Carried
+pub mod Imposed
 pub mod Choice
 pub mod Covering
 pub mod Fitting
@@ -18,7 +18,7 @@ pub mod RowWriting
 pub mod Rows
 pub mod Steps
 pub mod Stored
-pub mod Telling
+pub mod ShownValues
 pub mod TreeValues
 pub mod Truths
 pub mod Unique

@@ -6,7 +6,7 @@ use Rattle.abi_layout.specs.Shape.{Shape, Shapes, scalar, fields, sum, last, fie
 use Rattle.abi_layout.specs.Trees.{sides}
 use Rattle.abi_pack.specs.View.{shape, shapes}
 use Rattle.abi_layout.specs.declared.part.Sort.{Sort}
-use Rattle.abi_layout.specs.declared.part.Spot.{Spot}
+use Rattle.abi_layout.specs.declared.part.SumLayout.{SumLayout}
 use Rattle.abi_layout.specs.declared.part.PartField.{PartField}
 use Rattle.abi_layout.specs.declared.part.Part.{Part}
 use Rattle.abi_layout.specs.declared.part.Part.TheVariants as part
@@ -31,6 +31,6 @@ side_fewer a b true = omega arith
 side_fewer a b false = omega arith
 
 -- and a variant of a sum
-pub variant_fewer : (p q : Part) (names : Sort) (a b : Box Part Global) (at : Spot) (first : Bool) → p ≡ part.Sum names a b at
+pub variant_fewer : (p q : Part) (names : Sort) (a b : Box Part Global) (at : SumLayout) (first : Bool) → p ≡ part.Sum names a b at
     → shape q ≡ sides (shape a.value) (shape b.value) first → nodes (shape q) < nodes (shape p)
 variant_fewer p q names a b at first e is = rw (e, shape_sum names a b at, is) (side_fewer (shape a.value) (shape b.value) first)

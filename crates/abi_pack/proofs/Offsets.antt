@@ -7,16 +7,16 @@ use Rattle.std.specs.declared.boxed.Box.{Box}
 use Rattle.std.specs.declared.alloc.Global.{Global}
 use Rattle.abi_det.specs.State.{is_state_ok, IsCovered}
 use Rattle.abi_det.specs.declared.determinant.Determinant.{Determinant}
-use Rattle.abi_pack.specs.Image.{Image, from, bytes_of}
+use Rattle.abi_pack.specs.ByteMap.{ByteMap, seen_from, bytes_of}
 use Rattle.abi_pack.specs.Plain.{Plain, Plains, list, variant, end, more}
 use Rattle.abi_layout.specs.Shape.{Shape, sum, size}
 use Rattle.abi_pack.specs.Shows.{start_of}
 use Rattle.abi_layout.specs.Trees.{sides}
-use Rattle.abi_pack.specs.Sound.{IsSound}
-use Rattle.abi_pack.specs.Told.{is_shown, is_shown_in, told, told_in}
+use Rattle.abi_pack.specs.Consistent.{IsConsistent}
+use Rattle.abi_pack.specs.ValueShown.{is_shown, is_shown_in, value_shown, values_shown}
 use Rattle.abi_pack.specs.View.{shape, shapes, plain, plains, joined}
 use Rattle.abi_layout.specs.declared.part.Sort.{Sort}
-use Rattle.abi_layout.specs.declared.part.Spot.{Spot}
+use Rattle.abi_layout.specs.declared.part.SumLayout.{SumLayout}
 use Rattle.abi_layout.specs.declared.part.PartField.{PartField}
 use Rattle.abi_layout.specs.declared.part.Part.{Part}
 use Rattle.abi_layout.specs.declared.part.Part.TheVariants as part
@@ -25,53 +25,53 @@ use Rattle.abi_pack.specs.declared.value.Value.TheVariants as value
 use Rattle.abi_pack.proofs.Views.{shape_sum, plain_list}
 use Rattle.abi_pack.proofs.Steps.{struct_is, sum_covered}
 
-pub from_from : (f : Image) (x at o : ℕ) → x ≡ at + o → from x f ≡ from o (from at f)
+pub from_from : (f : ByteMap) (x at o : ℕ) → x ≡ at + o → seen_from x f ≡ seen_from o (seen_from at f)
 from_from f x at o e = fun_ext (λ i. ap f (omega arith))
 
-pub dropped : (xs : List ℕ) (at : ℕ) → bytes_of (drop at xs) ≡ from at (bytes_of xs)
+pub dropped : (xs : List ℕ) (at : ℕ) → bytes_of (drop at xs) ≡ seen_from at (bytes_of xs)
 dropped xs at = fun_ext (λ i. get_or-drop at xs i 0)
 
-pub state_at : (d : Determinant) (xs : List ℕ) (at : ℕ) (b : Bool) → b ≡ is_state_ok d (bytes_of (drop at xs)) → is_state_ok d (from at (bytes_of xs)) ≡ b
+pub state_at : (d : Determinant) (xs : List ℕ) (at : ℕ) (b : Bool) → b ≡ is_state_ok d (bytes_of (drop at xs)) → is_state_ok d (seen_from at (bytes_of xs)) ≡ b
 state_at d xs at b e = sym (e ∙ ap (is_state_ok d) (dropped xs at))
 
 -- ---- a sum
 
-shown_state : (names : Sort) (side : Bool → Shape) (at : Spot) (first : Bool) (g : Image) → is_state_ok at.determinant g ≡ first
-    → is_shown (side first) (from (start_of at first) g) ≡ is_shown (sum names side at) g
-shown_state names side at first g e = subst (λ b. is_shown (side b) (from (start_of at b) g) ≡ is_shown (sum names side at) g) e refl
+shown_state : (names : Sort) (side : Bool → Shape) (at : SumLayout) (first : Bool) (g : ByteMap) → is_state_ok at.determinant g ≡ first
+    → is_shown (side first) (seen_from (start_of at first) g) ≡ is_shown (sum names side at) g
+shown_state names side at first g e = subst (λ b. is_shown (side b) (seen_from (start_of at b) g) ≡ is_shown (sum names side at) g) e refl
 
-told_state : (names : Sort) (side : Bool → Shape) (at : Spot) (first : Bool) (g : Image) → is_state_ok at.determinant g ≡ first
-    → variant names first (told (side first) (from (start_of at first) g)) ≡ told (sum names side at) g
+told_state : (names : Sort) (side : Bool → Shape) (at : SumLayout) (first : Bool) (g : ByteMap) → is_state_ok at.determinant g ≡ first
+    → variant names first (value_shown (side first) (seen_from (start_of at first) g)) ≡ value_shown (sum names side at) g
 told_state names side at first g e =
-    subst (λ b. variant names b (told (side b) (from (start_of at b) g)) ≡ told (sum names side at) g) e refl
+    subst (λ b. variant names b (value_shown (side b) (seen_from (start_of at b) g)) ≡ value_shown (sum names side at) g) e refl
 
-pub shown_sum : (p q : Part) (names : Sort) (a b : Box Part Global) (at : Spot) (first : Bool) (f : Image) (o x : ℕ) (r : Bool)
-    → p ≡ part.Sum names a b at → shape q ≡ sides (shape a.value) (shape b.value) first → is_state_ok at.determinant (from o f) ≡ first
-    → x ≡ o + start_of at first → r ≡ is_shown (shape q) (from x f) → r ≡ is_shown (shape p) (from o f)
+pub shown_sum : (p q : Part) (names : Sort) (a b : Box Part Global) (at : SumLayout) (first : Bool) (f : ByteMap) (o x : ℕ) (r : Bool)
+    → p ≡ part.Sum names a b at → shape q ≡ sides (shape a.value) (shape b.value) first → is_state_ok at.determinant (seen_from o f) ≡ first
+    → x ≡ o + start_of at first → r ≡ is_shown (shape q) (seen_from x f) → r ≡ is_shown (shape p) (seen_from o f)
 shown_sum p q names a b at first f o x r e side state ex is =
     let side_ : Bool → Shape = sides (shape a.value) (shape b.value) in
-    is ∙ rw (side, from_from f x o (start_of at first) ex) (shown_state names side_ at first (from o f) state)
-    ∙ sym (ap (λ s. is_shown s (from o f)) (ap shape e ∙ shape_sum names a b at))
+    is ∙ rw (side, from_from f x o (start_of at first) ex) (shown_state names side_ at first (seen_from o f) state)
+    ∙ sym (ap (λ s. is_shown s (seen_from o f)) (ap shape e ∙ shape_sum names a b at))
 
-pub told_sum : (p q : Part) (names : Sort) (a b : Box Part Global) (at : Spot) (first : Bool) (f : Image) (o x : ℕ) (v : Plain)
-    → p ≡ part.Sum names a b at → shape q ≡ sides (shape a.value) (shape b.value) first → is_state_ok at.determinant (from o f) ≡ first
-    → x ≡ o + start_of at first → v ≡ told (shape q) (from x f) → variant names first v ≡ told (shape p) (from o f)
+pub told_sum : (p q : Part) (names : Sort) (a b : Box Part Global) (at : SumLayout) (first : Bool) (f : ByteMap) (o x : ℕ) (v : Plain)
+    → p ≡ part.Sum names a b at → shape q ≡ sides (shape a.value) (shape b.value) first → is_state_ok at.determinant (seen_from o f) ≡ first
+    → x ≡ o + start_of at first → v ≡ value_shown (shape q) (seen_from x f) → variant names first v ≡ value_shown (shape p) (seen_from o f)
 told_sum p q names a b at first f o x v e side state ex is =
     let side_ : Bool → Shape = sides (shape a.value) (shape b.value) in
-    ap (variant names first) is ∙ rw (side, from_from f x o (start_of at first) ex) (told_state names side_ at first (from o f) state)
-    ∙ sym (ap (λ s. told s (from o f)) (ap shape e ∙ shape_sum names a b at))
+    ap (variant names first) is ∙ rw (side, from_from f x o (start_of at first) ex) (told_state names side_ at first (seen_from o f) state)
+    ∙ sym (ap (λ s. value_shown s (seen_from o f)) (ap shape e ∙ shape_sum names a b at))
 
 -- ---- fields
 
-pub shown_fields : (all fields : List PartField) (one : PartField) (f : Image) (o x y : ℕ) (p q : Bool) → all ≡ one ∷ fields
-    → x ≡ o + one.gap → y ≡ x + size (shape one.part) → p ≡ is_shown (shape one.part) (from x f) → q ≡ is_shown_in (shapes fields) (from y f)
-    → (p && q) ≡ is_shown_in (shapes all) (from o f)
+pub shown_fields : (all fields : List PartField) (one : PartField) (f : ByteMap) (o x y : ℕ) (p q : Bool) → all ≡ one ∷ fields
+    → x ≡ o + one.gap → y ≡ x + size (shape one.part) → p ≡ is_shown (shape one.part) (seen_from x f) → q ≡ is_shown_in (shapes fields) (seen_from y f)
+    → (p && q) ≡ is_shown_in (shapes all) (seen_from o f)
 shown_fields all fields one f o x y p q e ex ey first rest =
     rw (e, first, rest, from_from f x o one.gap ex, from_from f y o (one.gap + size (shape one.part)) (omega arith)) refl
 
-pub told_fields : (all fields : List PartField) (one : PartField) (f : Image) (o x y : ℕ) → all ≡ one ∷ fields
+pub told_fields : (all fields : List PartField) (one : PartField) (f : ByteMap) (o x y : ℕ) → all ≡ one ∷ fields
     → x ≡ o + one.gap → y ≡ x + size (shape one.part)
-    → told_in (shapes all) (from o f) ≡ more (told (shape one.part) (from x f)) (told_in (shapes fields) (from y f))
+    → values_shown (shapes all) (seen_from o f) ≡ more (value_shown (shape one.part) (seen_from x f)) (values_shown (shapes fields) (seen_from y f))
 told_fields all fields one f o x y e ex ey =
     rw (e, from_from f x o one.gap ex, from_from f y o (one.gap + size (shape one.part)) (omega arith)) refl
 
@@ -80,10 +80,10 @@ told_fields all fields one f o x y e ex ey =
 pub rest_whole : (xs : List ℕ) (at : ℕ) → take (length xs - at) (drop at xs) ≡ drop at xs
 rest_whole xs at = rw (← length-drop at xs) (take-length (drop at xs))
 
-pub state_rest : (d : Determinant) (xs : List ℕ) (at : ℕ) (b : Bool) → b ≡ is_state_ok d (bytes_of (take (length xs - at) (drop at xs))) → is_state_ok d (from at (bytes_of xs)) ≡ b
+pub state_rest : (d : Determinant) (xs : List ℕ) (at : ℕ) (b : Bool) → b ≡ is_state_ok d (bytes_of (take (length xs - at) (drop at xs))) → is_state_ok d (seen_from at (bytes_of xs)) ≡ b
 state_rest d xs at b e = state_at d xs at b (rw (rest_whole xs at) at e)
 
-pub covered_rest : (p : Part) (names : Sort) (a b : Box Part Global) (at : Spot) (o : ℕ) (xs : List ℕ) → p ≡ part.Sum names a b at → IsSound (shape p) → o + size (shape p) ≤ length xs
+pub covered_rest : (p : Part) (names : Sort) (a b : Box Part Global) (at : SumLayout) (o : ℕ) (xs : List ℕ) → p ≡ part.Sum names a b at → IsConsistent (shape p) → o + size (shape p) ≤ length xs
     → IsCovered at.determinant.test (length (take (length xs - o) (drop o xs)))
 covered_rest p names a b at o xs e sound within =
     let long : length (drop o xs) ≡ length xs - o = length-drop o xs in
@@ -99,15 +99,15 @@ pub joined_push : (vs : List Value) (v : Value) (rest : Plains) → joined (vs +
 joined_push [] v rest = refl
 joined_push (w ∷ vs) v rest = ap (more (plain w)) (joined_push vs v rest)
 
-pub read_step : (old new pushed : List Value) (v : Value) (all fields : List PartField) (one : PartField) (f : Image) (o x y : ℕ)
-    → pushed ≡ old ++ v ∷ [] → plain v ≡ told (shape one.part) (from x f) → all ≡ one ∷ fields → x ≡ o + one.gap → y ≡ x + size (shape one.part)
-    → joined new end ≡ joined pushed (told_in (shapes fields) (from y f))
-    → joined new end ≡ joined old (told_in (shapes all) (from o f))
+pub read_step : (old new pushed : List Value) (v : Value) (all fields : List PartField) (one : PartField) (f : ByteMap) (o x y : ℕ)
+    → pushed ≡ old ++ v ∷ [] → plain v ≡ value_shown (shape one.part) (seen_from x f) → all ≡ one ∷ fields → x ≡ o + one.gap → y ≡ x + size (shape one.part)
+    → joined new end ≡ joined pushed (values_shown (shapes fields) (seen_from y f))
+    → joined new end ≡ joined old (values_shown (shapes all) (seen_from o f))
 read_step old new pushed v all fields one f o x y is value cons ex ey rest =
-    rest ∙ rw is (joined_push old v (told_in (shapes fields) (from y f)))
-    ∙ ap (joined old) (ap (λ w. more w (told_in (shapes fields) (from y f))) value ∙ sym (told_fields all fields one f o x y cons ex ey))
+    rest ∙ rw is (joined_push old v (values_shown (shapes fields) (seen_from y f)))
+    ∙ ap (joined old) (ap (λ w. more w (values_shown (shapes fields) (seen_from y f))) value ∙ sym (told_fields all fields one f o x y cons ex ey))
 
-pub told_list : (vs old : List Value) (p : Part) (fields all : List PartField) (n : ℕ) (f : Image) → p ≡ part.Struct all n → fields ≡ all → old ≡ []
-    → joined vs end ≡ joined old (told_in (shapes fields) f) → plain (value.List vs) ≡ told (shape p) f
+pub told_list : (vs old : List Value) (p : Part) (fields all : List PartField) (n : ℕ) (f : ByteMap) → p ≡ part.Struct all n → fields ≡ all → old ≡ []
+    → joined vs end ≡ joined old (values_shown (shapes fields) f) → plain (value.List vs) ≡ value_shown (shape p) f
 told_list vs old p fields all n f e same none is =
-    plain_list vs ∙ ap list (sym (joined_end vs) ∙ rw none at is) ∙ sym (ap (λ s. told s f) (struct_is p fields all n e same))
+    plain_list vs ∙ ap list (sym (joined_end vs) ∙ rw none at is) ∙ sym (ap (λ s. value_shown s f) (struct_is p fields all n e same))

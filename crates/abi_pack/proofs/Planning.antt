@@ -6,27 +6,27 @@ use Rattle.abi_det.specs.Offers.{Rules}
 use Rattle.abi_layout.specs.Faults.{desc_fault}
 use Rattle.abi_layout.specs.Frames.{written_frame}
 use Rattle.abi_layout.specs.PartView.{shape}
-use Rattle.abi_layout.specs.Plans.{planned, IsNamed}
+use Rattle.abi_layout.specs.Plans.{shape_of, IsNamed}
 use Rattle.abi_layout.specs.Shape.{Shape, size}
 use Rattle.abi_layout.specs.Trees.{Tree}
-use Rattle.abi_pack.specs.Image.{Image, AreBytes, from, bytes_of}
+use Rattle.abi_pack.specs.ByteMap.{ByteMap, AreBytes, seen_from, bytes_of}
 use Rattle.abi_pack.specs.Packed.{packed}
 use Rattle.abi_pack.specs.Packing.{Packing, IsPlanOf, OfPlan, IsSomePlan}
 use Rattle.abi_pack.specs.Plain.{Plain}
-use Rattle.abi_pack.specs.Planned.{IsPlanned}
+use Rattle.abi_pack.specs.PlanShape.{IsPlanShape}
 use Rattle.abi_pack.specs.Reading.{IsShown}
 use Rattle.abi_pack.specs.Shows as of_shape
-use Rattle.abi_pack.specs.Told.{is_shown, told}
+use Rattle.abi_pack.specs.ValueShown.{is_shown, value_shown}
 use Rattle.abi_pack.specs.Values.{fits, Shows, IsLong, IsImageOf}
 use Rattle.abi_pack.proofs.Lawful.{faultless_covered, faultless_small, packed_image}
-use Rattle.abi_pack.proofs.Telling.{shown_value, shown_where}
+use Rattle.abi_pack.proofs.ShownValues.{shown_value, shown_where}
 use Rattle.abi_pack.proofs.TreeValues.{same_size, same_fits, same_shows}
 
-pub from_zero : (f : Image) → from 0 f ≡ f
+pub from_zero : (f : ByteMap) → seen_from 0 f ≡ f
 from_zero f = fun_ext (λ i. ap f (omega arith))
 
 -- the part of a description without a fault keeps what every plan's keeps
-pub plan_kept : (rules : Rules) (target : Target) (t : Tree) (s : Shape) → desc_fault rules target t ≡ None → s ≡ planned rules target t → IsNamed s → IsPlanned s
+pub plan_kept : (rules : Rules) (target : Target) (t : Tree) (s : Shape) → desc_fault rules target t ≡ None → s ≡ shape_of rules target t → IsNamed s → IsPlanShape s
 plan_kept rules target t s none is named =
     let small : (written_frame rules target t).size ≤ 1048576 = faultless_small rules target t none in
     let same = same_size rules target t in
@@ -53,7 +53,7 @@ plan_room q p n e some long =
 pub plan_written : (q p : Packing) (v : Plain) (out : List ℕ) → q ≡ p → OfPlan p (λ _ target t. fits target t v ≡ true) → out ≡ packed (shape q.part) v
     → OfPlan p (λ rules target t. IsImageOf rules target t v out)
 plan_written q p v out e fit is rules target t of =
-    let same : out ≡ packed (planned rules target t) v = is ∙ ap (λ (x : Packing). packed (shape x.part) v) e ∙ ap (λ s. packed s v) of.part in
+    let same : out ≡ packed (shape_of rules target t) v = is ∙ ap (λ (x : Packing). packed (shape x.part) v) e ∙ ap (λ s. packed s v) of.part in
     rw same (packed_image rules target t v of.faultless (fit rules target t of))
 
 plan_length : (q p : Packing) (bs : List ℕ) (rules : Rules) (target : Target) (t : Tree) → q ≡ p → IsPlanOf p rules target t → (length bs ≡ size (shape q.part)) ↔ IsLong rules target t bs
@@ -61,35 +61,35 @@ plan_length q p bs rules target t e of =
     let n : size (shape q.part) ≡ (written_frame rules target t).size = ap (λ (x : Packing). size (shape x.part)) e ∙ ap size of.part ∙ same_size rules target t in
     (λ h. h ∙ n, λ h. h ∙ sym n)
 
-plan_shows : (q p : Packing) (v : Plain) (f : Image) (rules : Rules) (target : Target) (t : Tree) → q ≡ p → IsPlanOf p rules target t → AreBytes f
+plan_shows : (q p : Packing) (v : Plain) (f : ByteMap) (rules : Rules) (target : Target) (t : Tree) → q ≡ p → IsPlanOf p rules target t → AreBytes f
     → of_shape.Shows (shape q.part) v f ↔ Shows rules target t v f
 plan_shows q p v f rules target t e of bytes =
-    let is : shape q.part ≡ planned rules target t = ap (λ (x : Packing). shape x.part) e ∙ of.part in
+    let is : shape q.part ≡ shape_of rules target t = ap (λ (x : Packing). shape x.part) e ∙ of.part in
     let same = same_shows rules target t v f bytes in
     (λ h. same.1 (subst (λ s. of_shape.Shows s v f) is h), λ h. subst (λ s. of_shape.Shows s v f) (sym is) (same.0 h))
 
 -- ---- reading
 
-pub plan_read : (q p : Packing) (v : Plain) (bs : List ℕ) → q ≡ p → AreBytes (bytes_of bs) → length bs ≡ size (shape q.part) → true ≡ is_shown (shape q.part) (from 0 (bytes_of bs))
-    → v ≡ told (shape q.part) (from 0 (bytes_of bs)) → OfPlan p (λ rules target t. IsLong rules target t bs × Shows rules target t v (bytes_of bs))
+pub plan_read : (q p : Packing) (v : Plain) (bs : List ℕ) → q ≡ p → AreBytes (bytes_of bs) → length bs ≡ size (shape q.part) → true ≡ is_shown (shape q.part) (seen_from 0 (bytes_of bs))
+    → v ≡ value_shown (shape q.part) (seen_from 0 (bytes_of bs)) → OfPlan p (λ rules target t. IsLong rules target t bs × Shows rules target t v (bytes_of bs))
 plan_read q p v bs e bytes long shown is rules target t of =
-    let f : Image = bytes_of bs in
+    let f : ByteMap = bytes_of bs in
     let there : is_shown (shape q.part) f ≡ true = rw (from_zero f) at (sym shown) in
-    let value : v ≡ told (shape q.part) f = rw (from_zero f) at is in
+    let value : v ≡ value_shown (shape q.part) f = rw (from_zero f) at is in
     ((plan_length q p bs rules target t e of).0 long, (plan_shows q p v f rules target t e of bytes).0 (rw value (shown_value (shape q.part) f bytes there)))
 
-pub plan_shown : (q p : Packing) (bs : List ℕ) → q ≡ p → AreBytes (bytes_of bs) → length bs ≡ size (shape q.part) → true ≡ is_shown (shape q.part) (from 0 (bytes_of bs))
+pub plan_shown : (q p : Packing) (bs : List ℕ) → q ≡ p → AreBytes (bytes_of bs) → length bs ≡ size (shape q.part) → true ≡ is_shown (shape q.part) (seen_from 0 (bytes_of bs))
     → OfPlan p (λ rules target t. IsShown rules target t bs)
 plan_shown q p bs e bytes long shown rules target t of =
-    let f : Image = bytes_of bs in
+    let f : ByteMap = bytes_of bs in
     let there : is_shown (shape q.part) f ≡ true = rw (from_zero f) at (sym shown) in
-    let v : Plain = told (shape q.part) f in
+    let v : Plain = value_shown (shape q.part) f in
     ((plan_length q p bs rules target t e of).0 long, (v, (plan_shows q p v f rules target t e of bytes).0 (shown_value (shape q.part) f bytes there)))
 
 pub plan_other_length : (q p : Packing) (bs : List ℕ) → q ≡ p → (length bs ≡ size (shape q.part) → ⊥) → OfPlan p (λ rules target t. IsLong rules target t bs → ⊥)
 plan_other_length q p bs e other rules target t of long = other ((plan_length q p bs rules target t e of).1 long)
 
-pub plan_none : (q p : Packing) (bs : List ℕ) → q ≡ p → AreBytes (bytes_of bs) → length bs ≡ size (shape q.part) → false ≡ is_shown (shape q.part) (from 0 (bytes_of bs))
+pub plan_none : (q p : Packing) (bs : List ℕ) → q ≡ p → AreBytes (bytes_of bs) → length bs ≡ size (shape q.part) → false ≡ is_shown (shape q.part) (seen_from 0 (bytes_of bs))
     → OfPlan p (λ rules target t. IsLong rules target t bs × ((v : Plain) → Shows rules target t v (bytes_of bs) → ⊥))
 plan_none q p bs e bytes long none rules target t of = (
   (plan_length q p bs rules target t e of).0 long,
@@ -99,9 +99,9 @@ plan_none q p bs e bytes long none rules target t of = (
 )
 
 -- where a value is shown, the bytes are told to show one
-pub plan_where : (q p : Packing) (bs : List ℕ) (r : Bool) → q ≡ p → AreBytes (bytes_of bs) → r ≡ is_shown (shape q.part) (from 0 (bytes_of bs))
+pub plan_where : (q p : Packing) (bs : List ℕ) (r : Bool) → q ≡ p → AreBytes (bytes_of bs) → r ≡ is_shown (shape q.part) (seen_from 0 (bytes_of bs))
     → OfPlan p (λ rules target t. IsShown rules target t bs → r ≡ true)
 plan_where q p bs r e bytes is rules target t of shown =
-    let f : Image = bytes_of bs in
+    let f : ByteMap = bytes_of bs in
     is ∙ ap (is_shown (shape q.part)) (from_zero f)
     ∙ shown_where (shape q.part) shown.1.0 f ((plan_shows q p shown.1.0 f rules target t e of bytes).1 shown.1.1)

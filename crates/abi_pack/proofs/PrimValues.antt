@@ -9,9 +9,9 @@ use Rattle.abi_layout.specs.declared.scalar.Scalar.TheVariants as scalars
 use Rattle.abi_layout.specs.declared.scalar.Integer.{Integer}
 use Rattle.abi_layout.specs.declared.scalar.Width.{Width}
 use Rattle.abi_layout.specs.declared.scalar.Width.TheVariants as width
-use Rattle.abi_pack.specs.Image.{Image, AreBytes, firsts}
+use Rattle.abi_pack.specs.ByteMap.{ByteMap, AreBytes, firsts}
 use Rattle.abi_pack.specs.Plain.{Plain, unit, integer, boolean}
-use Rattle.abi_pack.specs.Scalars.{full, half, is_int, is_value, low_worth, ordered, coded, number_in, is_legal, int_told, ShowsScalar}
+use Rattle.abi_pack.specs.Scalars.{full, half, is_int, is_value, low_worth, ordered, coded, number_in, is_legal, integer_shown, ShowsScalar}
 use Rattle.abi_pack.specs.Values.{in_range, is_of, counted, number, ShowsPrim}
 use Rattle.abi_pack.proofs.Stored.{firsts_length, int_coded, legal_shown, number_shown, int_small}
 
@@ -56,11 +56,11 @@ worth_after (y ∷ xs) x =
     let power : 256 ^ suc (length xs) ≡ 256 * 256 ^ length xs = pow-succ' 256 (length xs) in
     rw (rest, power) (grind arith)
 
-low_number : (n m : ℕ) (f : Image) → counted true n m f ≡ low_worth (firsts m f)
+low_number : (n m : ℕ) (f : ByteMap) → counted true n m f ≡ low_worth (firsts m f)
 low_number n zero f = refl
 low_number n (suc m) f = rw (worth_after (firsts m f) (f m), firsts_length m f, low_number n m f) refl
 
-high_number : (n m d : ℕ) (f : Image) → n ≡ m + d → counted false n m f ≡ 256 ^ d * low_worth (reverse (firsts m f))
+high_number : (n m d : ℕ) (f : ByteMap) → n ≡ m + d → counted false n m f ≡ 256 ^ d * low_worth (reverse (firsts m f))
 high_number n zero d f e = omega arith
 high_number n (suc m) d f e =
     let rest : counted false n m f ≡ 256 ^ suc d * low_worth (reverse (firsts m f)) = high_number n m (suc d) f (omega arith) in
@@ -69,25 +69,25 @@ high_number n (suc m) d f e =
     let turned : reverse (firsts m f ++ f m ∷ []) ≡ f m ∷ reverse (firsts m f) = reverse-append (firsts m f) (f m ∷ []) in
     rw (rest, power, place, turned) (grind arith)
 
-same_number : (g : Integer) (f : Image) → number g.little (width_size g.width) f ≡ number_in g f
+same_number : (g : Integer) (f : ByteMap) → number g.little (width_size g.width) f ≡ number_in g f
 same_number g f = either g.little (width_size g.width) f
   where
-    either : (little : Bool) (n : ℕ) (f : Image) → number little n f ≡ low_worth (ordered little (firsts n f))
+    either : (little : Bool) (n : ℕ) (f : ByteMap) → number little n f ≡ low_worth (ordered little (firsts n f))
     either true n f = low_number n n f
     either false n f = let whole : counted false n n f ≡ 256 ^ 0 * low_worth (reverse (firsts n f)) = high_number n n 0 f (omega arith) in omega (arith, whole)
 
 -- the number as it is coded, where a number below 0 stands as far below 256 ^ n
-shown_int : (g : Integer) (m : ℕ) (negative : Bool) (f : Image) → AreBytes f → is_int g m negative ≡ true → number_in g f ≡ coded g m negative
+shown_int : (g : Integer) (m : ℕ) (negative : Bool) (f : ByteMap) → AreBytes f → is_int g m negative ≡ true → number_in g f ≡ coded g m negative
     → ShowsScalar (scalars.Int g) (integer m negative) f
 shown_int g m negative f bytes is e =
     let c = int_coded g m negative is in
     let legal : is_legal (scalars.Int g) f ≡ true = rw e c.legal in
-    subst (λ v. ShowsScalar (scalars.Int g) v f) (ap (int_told g) e ∙ c.told) (legal_shown (scalars.Int g) f bytes legal)
+    subst (λ v. ShowsScalar (scalars.Int g) v f) (ap (integer_shown g) e ∙ c.told) (legal_shown (scalars.Int g) f bytes legal)
 
 below_full : (g : Integer) (m : ℕ) → is_int g m true ≡ true → m ≤ full g.width
 below_full g m h = ((int_small g m true h).1 refl).1
 
-int_shows : (g : Integer) (v : Plain) (f : Image) → AreBytes f
+int_shows : (g : Integer) (v : Plain) (f : ByteMap) → AreBytes f
     → ShowsPrim (scalars.Int g) v f ↔ ShowsScalar (scalars.Int g) v f
 int_shows g (integer m false) f bytes = (
   λ h. shown_int g m false f bytes (sym (range_int g m false) ∙ h.0) (sym (same_number g f) ∙ h.1),
@@ -104,7 +104,7 @@ int_shows g (integer m true) f bytes = (
 )
 int_shows g v f bytes = (λ h. absurd h, λ h. absurd (let is = h.value in cc))
 
-pub prim_shows : (c : Scalar) (v : Plain) (f : Image) → AreBytes f → ShowsPrim c v f ↔ ShowsScalar c v f
+pub prim_shows : (c : Scalar) (v : Plain) (f : ByteMap) → AreBytes f → ShowsPrim c v f ↔ ShowsScalar c v f
 prim_shows scalars.Unit unit f bytes = (λ h. record { value = refl; same = λ i lt. absurd (omega arith) }, λ h. tt)
 prim_shows scalars.Bool (boolean b) f bytes = (
   λ h. record { value = refl; same = λ i lt. let first : i ≡ 0 = omega arith in rw first h },

@@ -1,7 +1,7 @@
 -- Primitives in the forms that the code meets.
 use Rattle.std.proofs.Common.{◌≡◌, ℕ, ◌+◌, ◌<◌, ◌≤◌, List, [], ◌∷◌, length, set, take, drop, false, refl, ap, ◌∙◌, sym, arith, length-drop}
 use Rattle.std.proofs.lemmas.List.{ext_get_or, get_or-take, get_or-drop, length-take-le}
-use Rattle.abi_pack.specs.Image.{from, firsts, bytes_of}
+use Rattle.abi_pack.specs.ByteMap.{seen_from, firsts, bytes_of}
 use Rattle.abi_pack.specs.Plain.{Plain, unit, integer, boolean, is_unit, is_boolean, is_integer}
 use Rattle.abi_layout.specs.Prims.{width_size}
 use Rattle.abi_pack.specs.Scalars.{is_value, low_worth, ordered, number_in}
@@ -21,15 +21,15 @@ pub no_integer : (f : Integer) (v : Plain) → is_integer v ≡ false → is_val
 no_integer f (integer magnitude negative) h = absurd (cc)
 no_integer f _ h = refl
 
-pub firsts_cut : (n at : ℕ) (xs : List ℕ) → at + n ≤ length xs → firsts n (from at (bytes_of xs)) ≡ take n (drop at xs)
+pub firsts_cut : (n at : ℕ) (xs : List ℕ) → at + n ≤ length xs → firsts n (seen_from at (bytes_of xs)) ≡ take n (drop at xs)
 firsts_cut n at xs h =
     let long : length (take n (drop at xs)) ≡ n = length-take-le n (drop at xs) (rw (length-drop at xs) (omega arith)) in
-    ext_get_or 0 (firsts n (from at (bytes_of xs))) (take n (drop at xs)) (firsts_length n (from at (bytes_of xs)) ∙ sym long)
-    (λ i l. let inside : i < n = rw (firsts_length n (from at (bytes_of xs))) at l in
-    firsts_at n (from at (bytes_of xs)) i inside ∙ sym (get_or-take n (drop at xs) i 0 inside ∙ get_or-drop at xs i 0))
+    ext_get_or 0 (firsts n (seen_from at (bytes_of xs))) (take n (drop at xs)) (firsts_length n (seen_from at (bytes_of xs)) ∙ sym long)
+    (λ i l. let inside : i < n = rw (firsts_length n (seen_from at (bytes_of xs))) at l in
+    firsts_at n (seen_from at (bytes_of xs)) i inside ∙ sym (get_or-take n (drop at xs) i 0 inside ∙ get_or-drop at xs i 0))
 
 pub number_cut : (f : Integer) (at n : ℕ) (xs : List ℕ) → n ≡ width_size f.width → at + width_size f.width ≤ length xs
-    → low_worth (ordered f.little (take n (drop at xs))) ≡ number_in f (from at (bytes_of xs))
+    → low_worth (ordered f.little (take n (drop at xs))) ≡ number_in f (seen_from at (bytes_of xs))
 number_cut f at n xs e h = rw e (ap (λ ys. low_worth (ordered f.little ys)) (sym (firsts_cut (width_size f.width) at xs h)))
 
 pub one_byte : (xs : List ℕ) (x : ℕ) → length xs ≡ 1 → set xs 0 x ≡ x ∷ []

@@ -5,7 +5,7 @@ use Rattle.std.proofs.lemmas.Slice.{take-put_mid}
 use Rattle.abi_pack.specs.Packed.{zeros, packed, packed_in}
 use Rattle.abi_pack.specs.Plain.{Plain, Plains, list}
 use Rattle.abi_layout.specs.Shape.{Shape, Shapes, size, size_in, repeated}
-use Rattle.abi_pack.specs.Sound.{IsSound, AreSound}
+use Rattle.abi_pack.specs.Consistent.{IsConsistent, AreConsistent}
 use Rattle.abi_pack.specs.Shows.{fits, fits_in}
 use Rattle.abi_pack.specs.View.{shape, shapes, plain, plains}
 use Rattle.abi_layout.specs.declared.part.PartField.{PartField}
@@ -38,7 +38,7 @@ pub writing_one : (s : Shape) (v : Value) (vs rest : List Value) (start n : ℕ)
     → (fits s (plain v) ≡ true) × (start + size s ≤ n)
 writing_one s v vs rest start n out all cons w = let is = rw cons at w in (and_first (fits s (plain v)) _ is.1, omega (arith, is.0))
 
-pub writing_next : (s : Shape) (v : Value) (vs rest : List Value) (start one n k : ℕ) (out bytes all : List ℕ) → vs ≡ v ∷ rest → IsSound s → IsWriting s vs start n out all
+pub writing_next : (s : Shape) (v : Value) (vs rest : List Value) (start one n k : ℕ) (out bytes all : List ℕ) → vs ≡ v ∷ rest → IsConsistent s → IsWriting s vs start n out all
     → length out ≡ n → one ≡ size s → bytes ≡ packed s (plain v) → IsWriting s rest (start + one) n (put_mid start k out bytes) all
 writing_next s v vs rest start one n k out bytes all cons sound w long es eb =
     let is = rw cons at w in
@@ -56,7 +56,7 @@ pub writing_end : (s : Shape) (vs : List Value) (start n : ℕ) (out all : List 
 writing_end s vs start n out all none w = (rw none at w).2
 
 -- fields without bytes
-pub nothing_written : (fs : Shapes) (vs : Plains) (out : List ℕ) → AreSound fs → fits_in fs vs ≡ true → size_in fs ≤ length out → length out ≡ 0
+pub nothing_written : (fs : Shapes) (vs : Plains) (out : List ℕ) → AreConsistent fs → fits_in fs vs ≡ true → size_in fs ≤ length out → length out ≡ 0
     → out ≡ packed_in (length out) fs vs
 nothing_written fs vs out sound fit room none =
     both_empty out (packed_in (length out) fs vs) none (packed_in_length (length out) fs vs sound room fit ∙ none)

@@ -1,12 +1,12 @@
 -- Equal fields in a row.
 use Rattle.std.proofs.Common.{◌≡◌, ℕ, zero, suc, ◌+◌, ◌*◌, ◌-◌, ◌<◌, ◌≤◌, List, [], ◌∷◌, ◌++◌, ◌&&◌, length, Bool, true, false, refl, ap, ◌∙◌, ◌⊎◌, inl, inr, sym, arith}
 use mathlib.Core.Path.{fun_ext}
-use Rattle.abi_pack.specs.Image.{Image, from}
-use Rattle.abi_pack.specs.Told.{is_shown, is_shown_in, told, told_in}
+use Rattle.abi_pack.specs.ByteMap.{ByteMap, seen_from}
+use Rattle.abi_pack.specs.ValueShown.{is_shown, is_shown_in, value_shown, values_shown}
 use Rattle.abi_pack.proofs.Offsets.{from_from, joined_end, joined_push}
 use Rattle.abi_pack.specs.Plain.{Plains, list, end, more}
 use Rattle.abi_layout.specs.Shape.{Shape, fields, field, size, size_in, repeated}
-use Rattle.abi_pack.specs.Sound.{IsSound, AreSound}
+use Rattle.abi_pack.specs.Consistent.{IsConsistent, AreConsistent}
 use Rattle.abi_pack.specs.Shows.{fits, fits_in}
 use Rattle.abi_pack.specs.View.{shape, plain, plains, joined}
 use Rattle.std.specs.declared.boxed.Box.{Box}
@@ -32,7 +32,7 @@ pub row_one_size : (n : ℕ) (s : Shape) → 0 < n → size s ≤ size_in (repea
 row_one_size zero s h = absurd (omega arith)
 row_one_size (suc n) s h = omega arith
 
-pub row_sound : (n : ℕ) (s : Shape) → 0 < n → AreSound (repeated n s) → IsSound s
+pub row_sound : (n : ℕ) (s : Shape) → 0 < n → AreConsistent (repeated n s) → IsConsistent s
 row_sound zero s h sound = absurd (omega arith)
 row_sound (suc n) s h sound = sound.0
 
@@ -74,19 +74,19 @@ array_one p one item len whole e same some =
 pub row_size_next : (n i : ℕ) (s : Shape) → i < n → size_in (repeated (n - i) s) ≡ size s + size_in (repeated (n - (i + 1)) s)
 row_size_next n i s h = rw (row_next n i s h) (omega arith)
 
-from_nothing : (f : Image) → from 0 f ≡ f
+from_nothing : (f : ByteMap) → seen_from 0 f ≡ f
 from_nothing f = fun_ext (λ i. ap f (omega arith))
 
-shown_next : (n i : ℕ) (s : Shape) (f : Image) (o x y : ℕ) → i < n → x ≡ o → y ≡ o + size s
-    → is_shown_in (repeated (n - i) s) (from o f) ≡ (is_shown s (from x f) && is_shown_in (repeated (n - (i + 1)) s) (from y f))
+shown_next : (n i : ℕ) (s : Shape) (f : ByteMap) (o x y : ℕ) → i < n → x ≡ o → y ≡ o + size s
+    → is_shown_in (repeated (n - i) s) (seen_from o f) ≡ (is_shown s (seen_from x f) && is_shown_in (repeated (n - (i + 1)) s) (seen_from y f))
 shown_next n i s f o x y h ex ey = rw (row_next n i s h, from_from f x o 0 (omega arith), from_from f y o (0 + size s) (omega arith)) refl
 
-pub row_shown_on : (n i : ℕ) (s : Shape) (f : Image) (o y : ℕ) (r : Bool) → i < n → y ≡ o + size s → true ≡ is_shown s (from o f)
-    → is_shown_in (repeated (n - i) s) (from o f) ≡ r → is_shown_in (repeated (n - (i + 1)) s) (from y f) ≡ r
+pub row_shown_on : (n i : ℕ) (s : Shape) (f : ByteMap) (o y : ℕ) (r : Bool) → i < n → y ≡ o + size s → true ≡ is_shown s (seen_from o f)
+    → is_shown_in (repeated (n - i) s) (seen_from o f) ≡ r → is_shown_in (repeated (n - (i + 1)) s) (seen_from y f) ≡ r
 row_shown_on n i s f o y r h ey one e = let next = shown_next n i s f o o y h refl ey in sym (rw (← one) at next) ∙ e
 
-pub row_shown_not : (n i : ℕ) (s : Shape) (f : Image) (o : ℕ) (r : Bool) → i < n → false ≡ is_shown s (from o f)
-    → is_shown_in (repeated (n - i) s) (from o f) ≡ r → false ≡ r
+pub row_shown_not : (n i : ℕ) (s : Shape) (f : ByteMap) (o : ℕ) (r : Bool) → i < n → false ≡ is_shown s (seen_from o f)
+    → is_shown_in (repeated (n - i) s) (seen_from o f) ≡ r → false ≡ r
 row_shown_not n i s f o r h one e = let next = shown_next n i s f o o (o + size s) h refl refl in sym (rw (← one) at next) ∙ e
 
 both : (p q r : Bool) → q ≡ p → r ≡ p → p ≡ (q && r)
@@ -94,7 +94,7 @@ both true q r e f = rw (e, f) refl
 both false q r e f = rw e refl
 
 -- items without bytes all stand at one place
-pub row_point : (n : ℕ) (s : Shape) (f : Image) → 0 < n → size s ≡ 0 → is_shown s f ≡ is_shown_in (repeated n s) f
+pub row_point : (n : ℕ) (s : Shape) (f : ByteMap) → 0 < n → size s ≡ 0 → is_shown s f ≡ is_shown_in (repeated n s) f
 row_point zero s f h none = absurd (omega arith)
 row_point (suc zero) s f h none = sym (and_true _) ∙ ap (λ g. is_shown s g && true) (sym (from_nothing f))
   where
@@ -104,20 +104,20 @@ row_point (suc zero) s f h none = sym (and_true _) ∙ ap (λ g. is_shown s g &&
 row_point (suc (suc n)) s f h none =
     let nothing : 0 + size s ≡ 0 = omega arith in
     let rest : is_shown s f ≡ is_shown_in (repeated (suc n) s) f = row_point (suc n) s f (omega arith) none in
-    both (is_shown s f) (is_shown s (from 0 f)) (is_shown_in (repeated (suc n) s) (from (0 + size s) f)) (ap (is_shown s) (from_nothing f))
-    (ap (λ o. is_shown_in (repeated (suc n) s) (from o f)) nothing ∙ ap (is_shown_in (repeated (suc n) s)) (from_nothing f) ∙ sym rest)
+    both (is_shown s f) (is_shown s (seen_from 0 f)) (is_shown_in (repeated (suc n) s) (seen_from (0 + size s) f)) (ap (is_shown s) (from_nothing f))
+    (ap (λ o. is_shown_in (repeated (suc n) s) (seen_from o f)) nothing ∙ ap (is_shown_in (repeated (suc n) s)) (from_nothing f) ∙ sym rest)
 
-told_next : (n i : ℕ) (s : Shape) (f : Image) (o x y : ℕ) (v : Value) → i < n → x ≡ o → y ≡ o + size s → plain v ≡ told s (from x f)
-    → told_in (repeated (n - i) s) (from o f) ≡ more (plain v) (told_in (repeated (n - (i + 1)) s) (from y f))
+told_next : (n i : ℕ) (s : Shape) (f : ByteMap) (o x y : ℕ) (v : Value) → i < n → x ≡ o → y ≡ o + size s → plain v ≡ value_shown s (seen_from x f)
+    → values_shown (repeated (n - i) s) (seen_from o f) ≡ more (plain v) (values_shown (repeated (n - (i + 1)) s) (seen_from y f))
 told_next n i s f o x y v h ex ey value = rw (row_next n i s h, value, from_from f x o 0 (omega arith), from_from f y o (0 + size s) (omega arith)) refl
 
-pub row_told : (n i : ℕ) (s : Shape) (f : Image) (o y : ℕ) (old pushed : List Value) (v : Value) (r : Plains) → i < n → y ≡ o + size s
-    → pushed ≡ old ++ v ∷ [] → plain v ≡ told s (from o f) → joined old (told_in (repeated (n - i) s) (from o f)) ≡ r
-    → joined pushed (told_in (repeated (n - (i + 1)) s) (from y f)) ≡ r
+pub row_told : (n i : ℕ) (s : Shape) (f : ByteMap) (o y : ℕ) (old pushed : List Value) (v : Value) (r : Plains) → i < n → y ≡ o + size s
+    → pushed ≡ old ++ v ∷ [] → plain v ≡ value_shown s (seen_from o f) → joined old (values_shown (repeated (n - i) s) (seen_from o f)) ≡ r
+    → joined pushed (values_shown (repeated (n - (i + 1)) s) (seen_from y f)) ≡ r
 row_told n i s f o y old pushed v r h ey is value e =
-    rw is (joined_push old v (told_in (repeated (n - (i + 1)) s) (from y f))) ∙ ap (joined old) (sym (told_next n i s f o o y v h refl ey value)) ∙ e
+    rw is (joined_push old v (values_shown (repeated (n - (i + 1)) s) (seen_from y f))) ∙ ap (joined old) (sym (told_next n i s f o o y v h refl ey value)) ∙ e
 
-pub told_array : (vs old : List Value) (p one : Part) (item : Box Part Global) (len whole : ℕ) (f : Image) → p ≡ part.Array item len whole → one ≡ item.value → old ≡ []
-    → joined vs end ≡ joined old (told_in (repeated len (shape one)) f) → plain (value.List vs) ≡ told (shape p) f
+pub told_array : (vs old : List Value) (p one : Part) (item : Box Part Global) (len whole : ℕ) (f : ByteMap) → p ≡ part.Array item len whole → one ≡ item.value → old ≡ []
+    → joined vs end ≡ joined old (values_shown (repeated len (shape one)) f) → plain (value.List vs) ≡ value_shown (shape p) f
 told_array vs old p one item len whole f e same none is =
-    plain_list vs ∙ ap list (sym (joined_end vs) ∙ rw none at is) ∙ sym (ap (λ s. told s f) (array_is p one item len whole e same))
+    plain_list vs ∙ ap list (sym (joined_end vs) ∙ rw none at is) ∙ sym (ap (λ s. value_shown s f) (array_is p one item len whole e same))

@@ -7,7 +7,7 @@ use Rattle.std.proofs.lemmas.Bool.Decides.{nat_tests}
 use Rattle.std.specs.declared.boxed.Box.{Box}
 use Rattle.std.specs.declared.alloc.Global.{Global}
 use Rattle.abi_bits.specs.Pairs.{Pair, are_below}
-use Rattle.abi_det.specs.Owed.{IsTest}
+use Rattle.abi_det.specs.SoundPlacement.{IsTest}
 use Rattle.abi_det.specs.State.{IsCovered}
 use Rattle.abi_det.specs.declared.determinant.Test.{Test}
 use Rattle.abi_det.specs.declared.determinant.Test.TheVariants as test
@@ -15,11 +15,11 @@ use Rattle.abi_pack.specs.Plain.{Plain, variant}
 use Rattle.abi_layout.specs.Shape.{fields, size, size_in}
 use Rattle.abi_pack.specs.Shows.{fits, same_sort, start_of}
 use Rattle.abi_layout.specs.Trees.{sides}
-use Rattle.abi_pack.specs.Sound.{IsSound, AreSound, IsSpot}
+use Rattle.abi_pack.specs.Consistent.{IsConsistent, AreConsistent, IsSumLayout}
 use Rattle.abi_pack.specs.View.{shape, shapes}
 use Rattle.abi_layout.specs.declared.part.Compound.TheVariants as compound
 use Rattle.abi_layout.specs.declared.part.Sort.{Sort}
-use Rattle.abi_layout.specs.declared.part.Spot.{Spot}
+use Rattle.abi_layout.specs.declared.part.SumLayout.{SumLayout}
 use Rattle.abi_layout.specs.declared.part.PartField.{PartField}
 use Rattle.abi_layout.specs.declared.part.Part.{Part}
 use Rattle.abi_layout.specs.declared.part.Part.TheVariants as part
@@ -32,10 +32,10 @@ use Rattle.abi_pack.proofs.Views.{shape_struct, shape_sum}
 pub struct_is : (p : Part) (fs all : List PartField) (n : ℕ) → p ≡ part.Struct all n → fs ≡ all → shape p ≡ fields compound.Struct n (shapes fs)
 struct_is p fs all n e same = rw (e, same) (shape_struct all n)
 
-pub struct_sound : (p : Part) (fs all : List PartField) (n : ℕ) → p ≡ part.Struct all n → fs ≡ all → IsSound (shape p) → AreSound (shapes fs)
+pub struct_sound : (p : Part) (fs all : List PartField) (n : ℕ) → p ≡ part.Struct all n → fs ≡ all → IsConsistent (shape p) → AreConsistent (shapes fs)
 struct_sound p fs all n e same sound = (rw (struct_is p fs all n e same) at sound).0
 
-pub struct_within : (p : Part) (fs all : List PartField) (n o m : ℕ) → p ≡ part.Struct all n → fs ≡ all → IsSound (shape p) → o + size (shape p) ≤ m
+pub struct_within : (p : Part) (fs all : List PartField) (n o m : ℕ) → p ≡ part.Struct all n → fs ≡ all → IsConsistent (shape p) → o + size (shape p) ≤ m
     → o + size_in (shapes fs) ≤ m
 struct_within p fs all n o m e same sound within =
     let is = struct_is p fs all n e same in
@@ -81,28 +81,28 @@ covered_longer (test.BitIsErr o x) n m le h =
 
 -- ---- a sum
 
-pub sum_sound : (p : Part) (names : Sort) (a b : Box Part Global) (at : Spot) → p ≡ part.Sum names a b at → IsSound (shape p)
-    → ((first : Bool) → IsSound (sides (shape a.value) (shape b.value) first)) × IsSpot (sides (shape a.value) (shape b.value)) at
+pub sum_sound : (p : Part) (names : Sort) (a b : Box Part Global) (at : SumLayout) → p ≡ part.Sum names a b at → IsConsistent (shape p)
+    → ((first : Bool) → IsConsistent (sides (shape a.value) (shape b.value) first)) × IsSumLayout (sides (shape a.value) (shape b.value)) at
 sum_sound p names a b at e sound = rw (e, shape_sum names a b at) at sound
 
-pub sum_size : (p : Part) (names : Sort) (a b : Box Part Global) (at : Spot) → p ≡ part.Sum names a b at → size (shape p) ≡ at.size
+pub sum_size : (p : Part) (names : Sort) (a b : Box Part Global) (at : SumLayout) → p ≡ part.Sum names a b at → size (shape p) ≡ at.size
 sum_size p names a b at e = rw (e, shape_sum names a b at) refl
 
 -- the test may be asked of as many bytes as the sum has, and of more
-pub sum_covered : (p : Part) (names : Sort) (a b : Box Part Global) (at : Spot) (n : ℕ) → p ≡ part.Sum names a b at → IsSound (shape p) → size (shape p) ≤ n
+pub sum_covered : (p : Part) (names : Sort) (a b : Box Part Global) (at : SumLayout) (n : ℕ) → p ≡ part.Sum names a b at → IsConsistent (shape p) → size (shape p) ≤ n
     → IsCovered at.determinant.test n
 sum_covered p names a b at n e sound long =
     covered_longer at.determinant.test at.size n (let same : size (shape p) ≡ at.size = sum_size p names a b at e in omega arith)
     (test_covered at.determinant.test at.size (sum_sound p names a b at e sound).1.tested)
 
 -- the part q is the variant of the sum that stands at an offset in n bytes
-pub record IsVariantOf (p q : Part) (at : Spot) (first : Bool) (o n : ℕ) : Type 0 where
+pub record IsVariantOf (p q : Part) (at : SumLayout) (first : Bool) (o n : ℕ) : Type 0 where
   pub fewer : nodes (shape q) < nodes (shape p)
-  pub sound : IsSound (shape q)
+  pub sound : IsConsistent (shape q)
   pub within : o + start_of at first + size (shape q) ≤ n
 
-pub variant_of : (p q : Part) (names : Sort) (a b : Box Part Global) (at : Spot) (first : Bool) (o n : ℕ) → p ≡ part.Sum names a b at
-    → shape q ≡ sides (shape a.value) (shape b.value) first → IsSound (shape p) → o + size (shape p) ≤ n → IsVariantOf p q at first o n
+pub variant_of : (p q : Part) (names : Sort) (a b : Box Part Global) (at : SumLayout) (first : Bool) (o n : ℕ) → p ≡ part.Sum names a b at
+    → shape q ≡ sides (shape a.value) (shape b.value) first → IsConsistent (shape p) → o + size (shape p) ≤ n → IsVariantOf p q at first o n
 variant_of p q names a b at first o n e is sound within =
     let whole : size (shape p) ≡ at.size = sum_size p names a b at e in
     let kept = sum_sound p names a b at e sound in
@@ -110,7 +110,7 @@ variant_of p q names a b at first o n e is sound within =
     record { fewer = variant_fewer p q names a b at first e is; sound = rw is (kept.0 first); within = rw is (omega arith) }
 
 -- and the payload of a value of the sum is one of the variant's
-pub payload_fits : (p q : Part) (names kind : Sort) (a b : Box Part Global) (at : Spot) (v w : Plain) (first : Bool) → p ≡ part.Sum names a b at
+pub payload_fits : (p q : Part) (names kind : Sort) (a b : Box Part Global) (at : SumLayout) (v w : Plain) (first : Bool) → p ≡ part.Sum names a b at
     → shape q ≡ sides (shape a.value) (shape b.value) first → v ≡ variant kind first w → fits (shape p) v ≡ true → fits (shape q) w ≡ true
 payload_fits p q names kind a b at v w first e is value h =
     let fit : (same_sort names kind && fits (sides (shape a.value) (shape b.value) first) w) ≡ true = rw (e, shape_sum names a b at, value) at h in

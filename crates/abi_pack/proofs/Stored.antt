@@ -1,4 +1,4 @@
--- Primitives: a value is told from the bytes in which it stands, and legal bytes are those of the value that they tell.
+-- Primitives: the bytes in which a value stands show it, and legal bytes are those of the value that they show.
 use Rattle.std.specs.Prelude.{nat_lt, nat_le}
 use Rattle.std.specs.List.{list_any}
 use Rattle.std.proofs.Common.{◌≡◌, ℕ, zero, suc, ◌-◌, ◌*◌, ◌<◌, ◌≤◌, List, [], ◌∷◌, ◌++◌, length, get_or, ◌⊎◌, inl, inr, ◌==◌, Bool, true, false, cond, ◌&&◌, ◌||◌, refl, ap, ◌∙◌, sym, arith, lit<, length-append}
@@ -9,10 +9,10 @@ use Rattle.std.proofs.Math.ListN.{get_or-eq_default}
 use Rattle.std.proofs.lemmas.List.Folds.{list_all-append}
 use Rattle.abi_bits.specs.Pairs.{Pair, is_matched}
 use Rattle.abi_bits.specs.Forbidden.{is_match}
-use Rattle.abi_pack.specs.Image.{Image, AreBytes, firsts}
+use Rattle.abi_pack.specs.ByteMap.{ByteMap, AreBytes, firsts}
 use Rattle.abi_pack.specs.Plain.{Plain, unit, integer, boolean}
 use Rattle.abi_layout.specs.Prims.{width_size, scalar_size, zero_bytes, scalar_items}
-use Rattle.abi_pack.specs.Scalars.{full, half, is_int, is_value, low_bytes, low_worth, ordered, coded, stored, number_in, is_legal, int_told, scalar_told, ShowsScalar}
+use Rattle.abi_pack.specs.Scalars.{full, half, is_int, is_value, low_bytes, low_worth, ordered, coded, stored, number_in, is_legal, integer_shown, scalar_shown, ShowsScalar}
 use Rattle.abi_layout.specs.declared.scalar.Scalar.{Scalar}
 use Rattle.abi_layout.specs.declared.scalar.Scalar.TheVariants as scalars
 use Rattle.abi_layout.specs.declared.scalar.Integer.{Integer}
@@ -38,13 +38,13 @@ some_half width.Sixteen = lit< tt
 -- what an integer of the c is stored as, and what that tells
 pub record IsCoded (f : Integer) (m : ℕ) (negative : Bool) : Type 0 where
   pub small : coded f m negative < full f.width
-  pub told : int_told f (coded f m negative) ≡ integer m negative
+  pub told : integer_shown f (coded f m negative) ≡ integer m negative
   pub legal : (f.zero || nat_lt 0 (coded f m negative)) ≡ true
 
-told_low : (f : Integer) (x : ℕ) → (f.signed && nat_le (half f.width) x) ≡ false → int_told f x ≡ integer x false
+told_low : (f : Integer) (x : ℕ) → (f.signed && nat_le (half f.width) x) ≡ false → integer_shown f x ≡ integer x false
 told_low f x e = rw e refl
 
-told_high : (f : Integer) (x : ℕ) → (f.signed && nat_le (half f.width) x) ≡ true → int_told f x ≡ integer (full f.width - x) true
+told_high : (f : Integer) (x : ℕ) → (f.signed && nat_le (half f.width) x) ≡ true → integer_shown f x ≡ integer (full f.width - x) true
 told_high f x e = rw e refl
 
 or_positive : (p : Bool) (x : ℕ) → 0 < x → (p || nat_lt 0 x) ≡ true
@@ -90,7 +90,7 @@ is_low : (signed : Bool) (w : Width) (x : ℕ) → x < full w → (signed && nat
 is_low true w x s h = grind (arith, nat_tests)
 is_low false w x s h = grind (arith, nat_tests)
 
-pub int_again : (f : Integer) (x : ℕ) → x < full f.width → (f.zero || nat_lt 0 x) ≡ true → IsToldInt f x (int_told f x)
+pub int_again : (f : Integer) (x : ℕ) → x < full f.width → (f.zero || nat_lt 0 x) ≡ true → IsToldInt f x (integer_shown f x)
 int_again f x small some =
     branch (IsToldInt f x) (f.signed && nat_le (half f.width) x) (integer (full f.width - x) true) (integer x false)
     (λ e. let back : full f.width - (full f.width - x) ≡ x = omega arith in
@@ -99,25 +99,25 @@ int_again f x small some =
 
 -- ---- the first bytes of an image
 
-pub firsts_length : (n : ℕ) (f : Image) → length (firsts n f) ≡ n
+pub firsts_length : (n : ℕ) (f : ByteMap) → length (firsts n f) ≡ n
 firsts_length zero f = refl
 firsts_length (suc n) f = let rest : length (firsts n f) ≡ n = firsts_length n f in simp length-append (omega arith)
 
-pub firsts_at : (n : ℕ) (f : Image) (i : ℕ) → i < n → get_or (firsts n f) i 0 ≡ f i
+pub firsts_at : (n : ℕ) (f : ByteMap) (i : ℕ) → i < n → get_or (firsts n f) i 0 ≡ f i
 firsts_at zero f i h = absurd (omega arith)
 firsts_at (suc n) f i h = firsts_step n f i h (cases_lt i n) (λ l. firsts_at n f i l)
   where
-    firsts_step : (n : ℕ) (f : Image) (i : ℕ) → i < suc n → (i < n) ⊎ (n ≤ i) → (i < n → get_or (firsts n f) i 0 ≡ f i) → get_or (firsts n f ++ f n ∷ []) i 0 ≡ f i
+    firsts_step : (n : ℕ) (f : ByteMap) (i : ℕ) → i < suc n → (i < n) ⊎ (n ≤ i) → (i < n → get_or (firsts n f) i 0 ≡ f i) → get_or (firsts n f ++ f n ∷ []) i 0 ≡ f i
     firsts_step n f i h (inl l) below = let inside : i < length (firsts n f) = rw (firsts_length n f) l in get_or_append_left (firsts n f) (f n ∷ []) 0 i inside ∙ below l
     firsts_step n f i h (inr g) below =
         let same : i ≡ n = omega arith in
         rw same (get_or-append_right (firsts n f) (f n ∷ []) n n 0 (firsts_length n f) (omega arith) ∙ (let none : n - n ≡ 0 = omega arith in rw none refl))
 
-pub firsts_small : (n : ℕ) (f : Image) → AreBytes f → AllBytes (firsts n f)
+pub firsts_small : (n : ℕ) (f : ByteMap) → AreBytes f → AllBytes (firsts n f)
 firsts_small zero f b i = lit< tt
 firsts_small (suc n) f b i = small_step n f b i (cases_lt i (suc n))
   where
-    small_step : (n : ℕ) (f : Image) → AreBytes f → (i : ℕ) → (i < suc n) ⊎ (suc n ≤ i) → get_or (firsts (suc n) f) i 0 < 256
+    small_step : (n : ℕ) (f : ByteMap) → AreBytes f → (i : ℕ) → (i < suc n) ⊎ (suc n ≤ i) → get_or (firsts (suc n) f) i 0 < 256
     small_step n f b i (inl l) = rw (firsts_at (suc n) f i l) (b i)
     small_step n f b i (inr g) = let past : length (firsts (suc n) f) ≤ i = rw (firsts_length (suc n) f) g in rw (get_or-eq_default (firsts (suc n) f) 0 past) (lit< tt)
 
@@ -139,7 +139,7 @@ stored_small (scalars.Int f) (integer m negative) h i =
     ordered_small f.little _ (low_small (width_size f.width) (coded f m negative)) i
 stored_small _ _ h i = absurd (cc)
 
-pub number_shown : (f : Integer) (m : ℕ) (negative : Bool) (g : Image) → ShowsScalar (scalars.Int f) (integer m negative) g → number_in f g ≡ coded f m negative
+pub number_shown : (f : Integer) (m : ℕ) (negative : Bool) (g : ByteMap) → ShowsScalar (scalars.Int f) (integer m negative) g → number_in f g ≡ coded f m negative
 number_shown f m negative g shown =
     let n : ℕ = width_size f.width in
     let written : List ℕ = low_bytes n (coded f m negative) in
@@ -150,16 +150,16 @@ number_shown f m negative g shown =
     let coded_ : IsCoded f m negative = int_coded f m negative shown.value in
     ap (λ xs. low_worth (ordered f.little xs)) same ∙ ap low_worth (ordered_twice f.little written) ∙ low_back n (coded f m negative) coded_.small
 
--- ---- bytes that show a value are legal, and tell it
+-- ---- bytes that show a value are legal
 
-pub shown_legal : (c : Scalar) (v : Plain) (g : Image) → ShowsScalar c v g → is_legal c g ≡ true
+pub shown_legal : (c : Scalar) (v : Plain) (g : ByteMap) → ShowsScalar c v g → is_legal c g ≡ true
 shown_legal scalars.Unit unit g shown = refl
 shown_legal scalars.Bool (boolean true) g shown = let one : g 0 ≡ 1 = shown.same 0 (lit< tt) in grind (arith, nat_tests)
 shown_legal scalars.Bool (boolean false) g shown = let none : g 0 ≡ 0 = shown.same 0 (lit< tt) in grind (arith, nat_tests)
 shown_legal (scalars.Int f) (integer m negative) g shown = rw (number_shown f m negative g shown) (int_coded f m negative shown.value).legal
 shown_legal _ _ g shown = absurd (let h = shown.value in cc)
 
-pub shown_told : (c : Scalar) (v : Plain) (g : Image) → ShowsScalar c v g → v ≡ scalar_told c g
+pub shown_told : (c : Scalar) (v : Plain) (g : ByteMap) → ShowsScalar c v g → v ≡ scalar_shown c g
 shown_told scalars.Unit unit g shown = refl
 shown_told scalars.Bool (boolean true) g shown =
     let one : g 0 ≡ 1 = shown.same 0 (lit< tt) in let test : nat_lt 0 (g 0) ≡ true = grind (arith, nat_tests) in rw test refl
@@ -168,29 +168,29 @@ shown_told scalars.Bool (boolean false) g shown =
 shown_told (scalars.Int f) (integer m negative) g shown = sym (rw (number_shown f m negative g shown) (int_coded f m negative shown.value).told)
 shown_told _ _ g shown = absurd (let h = shown.value in cc)
 
-bool_shown : (g : Image) (b : Bool) → nat_lt 0 (g 0) ≡ b → nat_lt (g 0) 2 ≡ true → ShowsScalar scalars.Bool (boolean b) g
+bool_shown : (g : ByteMap) (b : Bool) → nat_lt 0 (g 0) ≡ b → nat_lt (g 0) 2 ≡ true → ShowsScalar scalars.Bool (boolean b) g
 bool_shown g true e h = record { value = refl; same = λ i l. let first : i ≡ 0 = omega arith in rw first (grind (arith, nat_tests)) }
 bool_shown g false e h = record { value = refl; same = λ i l. let first : i ≡ 0 = omega arith in rw first (grind (arith, nat_tests)) }
 
-int_shown : (f : Integer) (g : Image) → AreBytes g → (f.zero || nat_lt 0 (number_in f g)) ≡ true → ShowsScalar (scalars.Int f) (int_told f (number_in f g)) g
+int_shown : (f : Integer) (g : ByteMap) → AreBytes g → (f.zero || nat_lt 0 (number_in f g)) ≡ true → ShowsScalar (scalars.Int f) (integer_shown f (number_in f g)) g
 int_shown f g b legal =
     let n : ℕ = width_size f.width in
     let there : List ℕ = ordered f.little (firsts n g) in
     let long : length there ≡ n = ordered_length f.little (firsts n g) ∙ firsts_length n g in
     let small : AllBytes there = ordered_small f.little (firsts n g) (firsts_small n g b) in
     let bound : low_worth there < full f.width = rw long at (low_bound there small) in
-    let told : IsToldInt f (low_worth there) (int_told f (low_worth there)) = int_again f (low_worth there) bound legal in
+    let told : IsToldInt f (low_worth there) (integer_shown f (low_worth there)) = int_again f (low_worth there) bound legal in
     let again : low_bytes n (low_worth there) ≡ there = rw long at (low_again there small) in
-    let same : stored (scalars.Int f) (int_told f (low_worth there)) ≡ firsts n g =
+    let same : stored (scalars.Int f) (integer_shown f (low_worth there)) ≡ firsts n g =
     told.same ∙ ap (ordered f.little) again ∙ ordered_twice f.little (firsts n g) in
     record { value = told.value; same = λ i h. sym (rw same (firsts_at n g i h)) }
 
-pub legal_shown : (c : Scalar) (g : Image) → AreBytes g → is_legal c g ≡ true → ShowsScalar c (scalar_told c g) g
+pub legal_shown : (c : Scalar) (g : ByteMap) → AreBytes g → is_legal c g ≡ true → ShowsScalar c (scalar_shown c g) g
 legal_shown scalars.Unit g b legal = record { value = refl; same = λ i h. absurd (omega arith) }
 legal_shown scalars.Bool g b legal = bool_shown g (nat_lt 0 (g 0)) refl legal
 legal_shown (scalars.Int f) g b legal = int_shown f g b legal
 
-pub number_bound : (f : Integer) (g : Image) → AreBytes g → number_in f g < full f.width
+pub number_bound : (f : Integer) (g : ByteMap) → AreBytes g → number_in f g < full f.width
 number_bound f g b =
     let n : ℕ = width_size f.width in
     rw (ordered_length f.little (firsts n g), firsts_length n g) at
@@ -198,10 +198,10 @@ number_bound f g b =
 
 -- ---- bytes that show a value match none of the primitive's items
 
-abbrev has_pair : Image → Pair → Bool
+abbrev has_pair : ByteMap → Pair → Bool
 has_pair g p = g p.0 == p.1
 
-zeros : (n : ℕ) (g : Image) → is_matched (zero_bytes n) g ≡ true → (i : ℕ) → i < n → g i ≡ 0
+zeros : (n : ℕ) (g : ByteMap) → is_matched (zero_bytes n) g ≡ true → (i : ℕ) → i < n → g i ≡ 0
 zeros zero g h i l = absurd (omega arith)
 zeros (suc n) g h i l =
     let pair : Pair = (n, 0) in
@@ -212,20 +212,20 @@ zeros (suc n) g h i l =
     let here : g n ≡ 0 = grind (arith, nat_tests) in
     zeros_step n g i l here (cases_lt i n) (λ b. zeros n g before i b)
   where
-    zeros_step : (n : ℕ) (g : Image) (i : ℕ) → i < suc n → g n ≡ 0 → (i < n) ⊎ (n ≤ i) → (i < n → g i ≡ 0) → g i ≡ 0
+    zeros_step : (n : ℕ) (g : ByteMap) (i : ℕ) → i < suc n → g n ≡ 0 → (i < n) ⊎ (n ≤ i) → (i < n → g i ≡ 0) → g i ≡ 0
     zeros_step n g i l here (inl b) below = below b
     zeros_step n g i l here (inr a) below = let same : i ≡ n = omega arith in rw same here
 
-first_zeros : (n : ℕ) (g : Image) → is_matched (zero_bytes n) g ≡ true → (i : ℕ) → (i < n) ⊎ (n ≤ i) → get_or (firsts n g) i 0 ≡ 0
+first_zeros : (n : ℕ) (g : ByteMap) → is_matched (zero_bytes n) g ≡ true → (i : ℕ) → (i < n) ⊎ (n ≤ i) → get_or (firsts n g) i 0 ≡ 0
 first_zeros n g h i (inl l) = firsts_at n g i l ∙ zeros n g h i l
 first_zeros n g h i (inr a) = let past : length (firsts n g) ≤ i = rw (firsts_length n g) a in get_or-eq_default (firsts n g) 0 past
 
-no_number : (f : Integer) (g : Image) → is_matched (zero_bytes (width_size f.width)) g ≡ true → number_in f g ≡ 0
+no_number : (f : Integer) (g : ByteMap) → is_matched (zero_bytes (width_size f.width)) g ≡ true → number_in f g ≡ 0
 no_number f g h =
     let n : ℕ = width_size f.width in
     no_worth (ordered f.little (firsts n g)) (ordered_each (λ x. x ≡ 0) f.little (firsts n g) refl (λ i. first_zeros n g h i (cases_lt i n)))
 
-is_no_zero : (f : Integer) (g : Image) → f.zero ≡ false → (f.zero || nat_lt 0 (number_in f g)) ≡ true → (r : Bool) → is_matched (zero_bytes (width_size f.width)) g ≡ r → r ≡ false
+is_no_zero : (f : Integer) (g : ByteMap) → f.zero ≡ false → (f.zero || nat_lt 0 (number_in f g)) ≡ true → (r : Bool) → is_matched (zero_bytes (width_size f.width)) g ≡ r → r ≡ false
 is_no_zero f g none legal true e =
     let number : number_in f g ≡ 0 = no_number f g e in
     let test : nat_lt 0 (number_in f g) ≡ true = rw none at legal in absurd (grind (arith, nat_tests))
@@ -234,7 +234,7 @@ is_no_zero f g none legal false e = refl
 or_false : (p : Bool) → p ≡ false → (p || false) ≡ false
 or_false p h = rw h refl
 
-pub scalar_allowed : (c : Scalar) (v : Plain) (g : Image) → ShowsScalar c v g → list_any (is_match g) (scalar_items c) ≡ false
+pub scalar_allowed : (c : Scalar) (v : Plain) (g : ByteMap) → ShowsScalar c v g → list_any (is_match g) (scalar_items c) ≡ false
 scalar_allowed scalars.Unit v g shown = refl
 scalar_allowed scalars.Bool v g shown =
     let low : nat_lt (g 0) 2 ≡ true = shown_legal scalars.Bool v g shown in grind (arith, nat_tests)

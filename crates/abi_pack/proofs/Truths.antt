@@ -7,13 +7,13 @@ use Rattle.std.proofs.lemmas.Bool.Decides.{nat_tests, eqb_tells}
 use Rattle.std.proofs.lemmas.Nat.{pow_pos}
 use Rattle.std.proofs.lemmas.Nat.Bits.{bit_at-lt, and_pow, bit_at-pow_same, bit_at-pow_other, same_from_bits_below}
 use Rattle.abi_bits.specs.Pairs.{Pair, is_matched, are_below}
-use Rattle.abi_det.specs.State.{test_holds, is_tested, is_state_ok, carry, put_bits}
+use Rattle.abi_det.specs.State.{test_holds, is_tested, is_state_ok, imposed, put_bits}
 use Rattle.abi_det.specs.declared.determinant.Test.{Test}
 use Rattle.abi_det.specs.declared.determinant.Test.TheVariants as test
-use Rattle.abi_pack.specs.Image.{Image, AreBytes}
-use Rattle.abi_det.specs.Owed.{is_carried, IsTest}
+use Rattle.abi_pack.specs.ByteMap.{ByteMap, AreBytes}
+use Rattle.abi_det.specs.SoundPlacement.{is_imposed, IsTest}
 use Rattle.abi_pack.specs.Shows.{sign_of}
-use Rattle.abi_layout.specs.declared.part.Spot.{Spot}
+use Rattle.abi_layout.specs.declared.part.SumLayout.{SumLayout}
 use Rattle.abi_pack.proofs.Choice.{and_first, and_second, or_left, or_right, either_way}
 
 -- two bytes with the same bits are equal
@@ -40,11 +40,11 @@ false_sign : (n t : Bool) → t ≡ not n → cond n t (not t) ≡ false
 false_sign true t h = h
 false_sign false t h = ap not h
 
-pub state_sign : (at : Spot) (f : Image) (side : Bool) → is_state_ok at.determinant f ≡ side → test_holds at.determinant.test f ≡ sign_of at side
+pub state_sign : (at : SumLayout) (f : ByteMap) (side : Bool) → is_state_ok at.determinant f ≡ side → test_holds at.determinant.test f ≡ sign_of at side
 state_sign at f true h = sign_true at.determinant.not (test_holds at.determinant.test f) h
 state_sign at f false h = sign_false at.determinant.not (test_holds at.determinant.test f) h
 
-pub sign_state : (at : Spot) (f : Image) (side : Bool) → test_holds at.determinant.test f ≡ sign_of at side → is_state_ok at.determinant f ≡ side
+pub sign_state : (at : SumLayout) (f : ByteMap) (side : Bool) → test_holds at.determinant.test f ≡ sign_of at side → is_state_ok at.determinant f ≡ side
 sign_state at f true h = true_sign at.determinant.not (test_holds at.determinant.test f) h
 sign_state at f false h = false_sign at.determinant.not (test_holds at.determinant.test f) h
 
@@ -56,11 +56,11 @@ pub record OneBit (t : Test) (n : ℕ) : Type 0 where
   pub bit : ℕ
   pub below : at < n
   pub low : bit < 8
-  pub truth : (f : Image) → test_holds t f ≡ (bit_at (f at) bit == 1)
+  pub truth : (f : ByteMap) → test_holds t f ≡ (bit_at (f at) bit == 1)
   pub own : is_tested t at bit ≡ true
   pub alone : (i k : ℕ) → is_tested t i k ≡ true → (i ≡ at) × (k ≡ bit)
-  pub carried : (sign : Bool) → is_carried t sign ≡ true
-  pub writes : (sign : Bool) (xs : List ℕ) → carry t sign xs ≡ put_bits at (2 ^ bit) sign xs
+  pub always : (sign : Bool) → is_imposed t sign ≡ true
+  pub writes : (sign : Bool) (xs : List ℕ) → imposed t sign xs ≡ put_bits at (2 ^ bit) sign xs
 
 pub masked_bit : (x b : ℕ) → not (bit_and x (2 ^ b) == 0) ≡ (bit_at x b == 1)
 masked_bit x b =
@@ -84,7 +84,7 @@ tag_bit n h = record {
   truth = λ f. refl;
   own = refl;
   alone = tag_alone;
-  carried = λ sign. refl;
+  always = λ sign. refl;
   writes = λ sign xs. refl;
 }
 
@@ -107,7 +107,7 @@ mask_bit o b n below low = record {
   truth = λ f. masked_bit (f o) b;
   own = (let here : (o == o) ≡ true = grind (arith, nat_tests) in let bit : bit_at (2 ^ b) b ≡ 1 = bit_at-pow_same b in rw (here, bit) refl);
   alone = λ i k h. ((mask_alone o b i k _ h).0, one_bit b k (mask_alone o b i k _ h).1);
-  carried = λ sign. refl;
+  always = λ sign. refl;
   writes = λ sign xs. refl;
 }
 
@@ -124,7 +124,7 @@ one_bit_test (test.BitIsErr o m) n kind is = subst (λ x. OneBit (test.BitIsErr 
 
 -- ---- a pattern
 
-same_matched : (ps : List Pair) (f g : Image) → ((i : ℕ) → list_any (λ p. p.0 == i) ps ≡ true → f i ≡ g i) → is_matched ps f ≡ is_matched ps g
+same_matched : (ps : List Pair) (f g : ByteMap) → ((i : ℕ) → list_any (λ p. p.0 == i) ps ≡ true → f i ≡ g i) → is_matched ps f ≡ is_matched ps g
 same_matched [] f g own = refl
 same_matched (p ∷ ps) f g own =
     let self : (p.0 == p.0) ≡ true = grind (arith, nat_tests) in
@@ -139,7 +139,7 @@ named_below n (p ∷ ps) i below h =
     (λ e. let first : nat_lt p.0 n ≡ true = and_first (nat_lt p.0 n) _ below in grind (arith, nat_tests))
     (λ e. named_below n ps i (and_second (nat_lt p.0 n) _ below) e)
 
-pub named_same : (ps : List Pair) (f g : Image) (i : ℕ) → is_matched ps f ≡ true → is_matched ps g ≡ true → list_any (λ p. p.0 == i) ps ≡ true → f i ≡ g i
+pub named_same : (ps : List Pair) (f g : ByteMap) (i : ℕ) → is_matched ps f ≡ true → is_matched ps g ≡ true → list_any (λ p. p.0 == i) ps ≡ true → f i ≡ g i
 named_same [] f g i a b h = absurd (cc)
 named_same (p ∷ ps) f g i a b h =
     either_way (p.0 == i) (list_any (λ q. q.0 == i) ps) h
@@ -151,26 +151,26 @@ named_same (p ∷ ps) f g i a b h =
 
 -- ---- every test
 
-bit_keeps : (t : Test) (n : ℕ) (sign : Bool) (f g : Image) → OneBit t n → test_holds t f ≡ sign
+bit_keeps : (t : Test) (n : ℕ) (sign : Bool) (f g : ByteMap) → OneBit t n → test_holds t f ≡ sign
     → ((i k : ℕ) → i < n → k < 8 → is_tested t i k ≡ true → bit_at (f i) k ≡ bit_at (g i) k) → test_holds t g ≡ sign
 bit_keeps t n sign f g is h same =
     is.truth g ∙ ap (λ x. x == 1) (sym (same is.at is.bit is.below is.low is.own)) ∙ sym (is.truth f) ∙ h
 
-word_keeps : (ps : List Pair) (n : ℕ) (f g : Image) → are_below n ps ≡ true → AreBytes f → AreBytes g → is_matched ps f ≡ true
+word_keeps : (ps : List Pair) (n : ℕ) (f g : ByteMap) → are_below n ps ≡ true → AreBytes f → AreBytes g → is_matched ps f ≡ true
     → ((i k : ℕ) → i < n → k < 8 → list_any (λ p. p.0 == i) ps ≡ true → bit_at (f i) k ≡ bit_at (g i) k) → is_matched ps g ≡ true
 word_keeps ps n f g below fb gb h same =
     sym (same_matched ps f g (λ i own. same_byte (f i) (g i) (fb i) (gb i) (λ k small. same i k (named_below n ps i below own) small own))) ∙ h
 
 -- where the test's own bits stay, or its truth is known, the truth is as before
-pub keeps : (t : Test) (n : ℕ) (sign : Bool) (f g : Image) → IsTest t n → AreBytes f → AreBytes g → test_holds t f ≡ sign
-    → (is_carried t sign ≡ true → (i k : ℕ) → i < n → k < 8 → is_tested t i k ≡ true → bit_at (f i) k ≡ bit_at (g i) k)
-    → (is_carried t sign ≡ false → test_holds t g ≡ sign) → test_holds t g ≡ sign
+pub keeps : (t : Test) (n : ℕ) (sign : Bool) (f g : ByteMap) → IsTest t n → AreBytes f → AreBytes g → test_holds t f ≡ sign
+    → (is_imposed t sign ≡ true → (i k : ℕ) → i < n → k < 8 → is_tested t i k ≡ true → bit_at (f i) k ≡ bit_at (g i) k)
+    → (is_imposed t sign ≡ false → test_holds t g ≡ sign) → test_holds t g ≡ sign
 keeps test.BitDeterminant n sign f g is fb gb h same absent = bit_keeps test.BitDeterminant n sign f g (one_bit_test test.BitDeterminant n tt is) h (same refl)
 keeps (test.BitIsErr o m) n sign f g is fb gb h same absent = bit_keeps (test.BitIsErr o m) n sign f g (one_bit_test (test.BitIsErr o m) n tt is) h (same refl)
 keeps (test.ValueIsErr ps) n true f g is fb gb h same absent = word_keeps ps n f g is.1 fb gb h (same refl)
 keeps (test.ValueIsErr ps) n false f g is fb gb h same absent = absent refl
 
-bit_same : (t : Test) (n : ℕ) (sign : Bool) (f g : Image) → OneBit t n → test_holds t f ≡ sign → test_holds t g ≡ sign
+bit_same : (t : Test) (n : ℕ) (sign : Bool) (f g : ByteMap) → OneBit t n → test_holds t f ≡ sign → test_holds t g ≡ sign
     → (i k : ℕ) → is_tested t i k ≡ true → bit_at (f i) k ≡ bit_at (g i) k
 bit_same t n sign f g is hf hg i k own =
     let place : (i ≡ is.at) × (k ≡ is.bit) = is.alone i k own in
@@ -182,10 +182,10 @@ bit_same t n sign f g is hf hg i k own =
     same_bit : (x y : ℕ) → x < 2 → y < 2 → (x == 1) ≡ (y == 1) → x ≡ y
     same_bit x y a c h = grind (arith, nat_tests)
 
--- a test that is carried fixes its own bits
-pub tested_same : (t : Test) (n : ℕ) (sign : Bool) (f g : Image) → IsTest t n → test_holds t f ≡ sign → test_holds t g ≡ sign
-    → is_carried t sign ≡ true → (i k : ℕ) → is_tested t i k ≡ true → bit_at (f i) k ≡ bit_at (g i) k
-tested_same test.BitDeterminant n sign f g is hf hg carried i k own = bit_same test.BitDeterminant n sign f g (one_bit_test test.BitDeterminant n tt is) hf hg i k own
-tested_same (test.BitIsErr o m) n sign f g is hf hg carried i k own = bit_same (test.BitIsErr o m) n sign f g (one_bit_test (test.BitIsErr o m) n tt is) hf hg i k own
-tested_same (test.ValueIsErr ps) n true f g is hf hg carried i k own = ap (λ x. bit_at x k) (named_same ps f g i hf hg own)
-tested_same (test.ValueIsErr ps) n false f g is hf hg carried i k own = absurd (cc)
+-- a test that is imposed fixes its own bits
+pub tested_same : (t : Test) (n : ℕ) (sign : Bool) (f g : ByteMap) → IsTest t n → test_holds t f ≡ sign → test_holds t g ≡ sign
+    → is_imposed t sign ≡ true → (i k : ℕ) → is_tested t i k ≡ true → bit_at (f i) k ≡ bit_at (g i) k
+tested_same test.BitDeterminant n sign f g is hf hg imposed i k own = bit_same test.BitDeterminant n sign f g (one_bit_test test.BitDeterminant n tt is) hf hg i k own
+tested_same (test.BitIsErr o m) n sign f g is hf hg imposed i k own = bit_same (test.BitIsErr o m) n sign f g (one_bit_test (test.BitIsErr o m) n tt is) hf hg i k own
+tested_same (test.ValueIsErr ps) n true f g is hf hg imposed i k own = ap (λ x. bit_at x k) (named_same ps f g i hf hg own)
+tested_same (test.ValueIsErr ps) n false f g is hf hg imposed i k own = absurd (cc)

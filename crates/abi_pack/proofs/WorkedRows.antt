@@ -6,7 +6,7 @@ use Rattle.abi_det.specs.Offers.{One}
 use Rattle.abi_layout.specs.Trees.{prim}
 use Rattle.abi_layout.specs.declared.prim.Primitive.{Primitive}
 use Rattle.abi_layout.specs.declared.prim.Primitive.TheVariants as primitive
-use Rattle.abi_pack.specs.Image.{bytes_of}
+use Rattle.abi_pack.specs.ByteMap.{bytes_of}
 use Rattle.abi_pack.specs.Plain.{Plain, integer, boolean}
 use Rattle.abi_pack.specs.Values.{fits, Shows}
 

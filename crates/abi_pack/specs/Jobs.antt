@@ -7,7 +7,7 @@ use Rattle.abi_layout.specs.Frames.{written_frame}
 use Rattle.abi_layout.specs.Faults.{desc_fault}
 use Rattle.abi_layout.specs.declared.desc_error.DescError.{DescError}
 use Rattle.abi_layout.specs.declared.desc_error.DescError.TheVariants as of_desc
-use Rattle.abi_layout.specs.Plans.{planned}
+use Rattle.abi_layout.specs.Plans.{shape_of}
 use Rattle.abi_pack.specs.Packed.{packed}
 use Rattle.abi_pack.specs.Plain.{Plain}
 use Rattle.abi_pack.specs.Values.{fits}
@@ -40,5 +40,5 @@ unfoldable pub image_of : Rules → Target → Tree → Plain → Image
 image_of rules target t v = record {
   layout = written_frame rules target t;
   placed = written_sums rules target 0 t;
-  bytes = packed (planned rules target t) v;
+  bytes = packed (shape_of rules target t) v;
 }

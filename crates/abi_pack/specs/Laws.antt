@@ -9,19 +9,19 @@ use Rattle.abi_det.specs.Offers.{Rules}
 use Rattle.abi_layout.specs.Faults.{desc_fault}
 use Rattle.abi_layout.specs.Frames.{written_frame}
 use Rattle.abi_layout.specs.Trees.{Tree}
-use Rattle.abi_pack.specs.Image.{Image, AreBytes, bytes_of}
+use Rattle.abi_pack.specs.ByteMap.{ByteMap, AreBytes, bytes_of}
 use Rattle.abi_pack.specs.Jobs.{job_fault, image_of}
 use Rattle.abi_pack.specs.Plain.{Plain}
 use Rattle.abi_pack.specs.Values.{fits, Shows, holds, IsLong, IsImageOf}
 
-abbrev pub bit_of : Image → ℕ → ℕ
+abbrev pub bit_of : ByteMap → ℕ → ℕ
 bit_of f n = bit_at (f (n / 8)) (n % 8)
 
 abbrev pub Holds : Rules → Target → Tree → Plain → ℕ → Type 0
 Holds rules target t v n = holds rules target t v (n / 8) (n % 8) ≡ true
 
 -- the bytes with bit n turned over
-abbrev pub flipped : ℕ → Image → Image
+abbrev pub flipped : ℕ → ByteMap → ByteMap
 flipped n f = λ i. if i == n / 8 then bit_xor (f i) (2 ^ (n % 8)) else f i
 
 module _ (rules : Rules) (target : Target) (t : Tree) where
@@ -44,12 +44,12 @@ CanonicalLaw = (rules : Rules) (target : Target) (t : Tree) (v : Plain) → Faul
 
 -- bytes show at most one value
 abbrev pub UniqueLaw : Type 0
-UniqueLaw = (rules : Rules) (target : Target) (t : Tree) (v w : Plain) (f : Image) → AreBytes f
+UniqueLaw = (rules : Rules) (target : Target) (t : Tree) (v w : Plain) (f : ByteMap) → AreBytes f
     → Shows rules target t v f → Shows rules target t w f → v ≡ w
 
 -- a value that bytes show fits
 abbrev pub FitLaw : Type 0
-FitLaw = (rules : Rules) (target : Target) (t : Tree) (v : Plain) (f : Image) → AreBytes f
+FitLaw = (rules : Rules) (target : Target) (t : Tree) (v : Plain) (f : ByteMap) → AreBytes f
     → Shows rules target t v f → fits target t v ≡ true
 
 -- bytes show a value exactly where they agree with its canonical bytes at every bit that it holds
@@ -61,7 +61,7 @@ HeldLaw = (rules : Rules) (target : Target) (t : Tree) (v : Plain) (bs cs : List
 
 -- in bytes that show a value, a bit is held exactly where its lone flip leaves bytes that do not show the value
 abbrev pub FlipLaw : Type 0
-FlipLaw = (rules : Rules) (target : Target) (t : Tree) (v : Plain) (f : Image) (n : ℕ) → Faultless rules target t
+FlipLaw = (rules : Rules) (target : Target) (t : Tree) (v : Plain) (f : ByteMap) (n : ℕ) → Faultless rules target t
     → AreBytes f → IsBit rules target t n → Shows rules target t v f
     → Holds rules target t v n ↔ (Shows rules target t v (flipped n f) → ⊥)
 
@@ -72,14 +72,14 @@ FreeLaw = (rules : Rules) (target : Target) (t : Tree) (v : Plain) (n : ℕ) →
 
 -- bytes that show a value show it after any change of the layout's free bits
 abbrev pub ChangeLaw : Type 0
-ChangeLaw = (rules : Rules) (target : Target) (t : Tree) (v : Plain) (f g : Image) → Faultless rules target t
+ChangeLaw = (rules : Rules) (target : Target) (t : Tree) (v : Plain) (f g : ByteMap) → Faultless rules target t
     → AreBytes f → AreBytes g → Shows rules target t v f
     → ((n : ℕ) → IsBit rules target t n → (IsFree rules target t n → ⊥) → bit_of f n ≡ bit_of g n)
     → Shows rules target t v g
 
 -- bytes that show a value match no forbidden item of the layout
 abbrev pub ItemLaw : Type 0
-ItemLaw = (rules : Rules) (target : Target) (t : Tree) (v : Plain) (f : Image) → Faultless rules target t → AreBytes f
+ItemLaw = (rules : Rules) (target : Target) (t : Tree) (v : Plain) (f : ByteMap) → Faultless rules target t → AreBytes f
     → Shows rules target t v f → list_any (is_match f) (written_frame rules target t).forbids ≡ false
 
 -- two values have equal canonical bytes exactly where they are equal

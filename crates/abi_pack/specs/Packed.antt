@@ -1,6 +1,6 @@
 -- The bytes that writing leaves, in the order in which they are written.
 use Rattle.std.specs.Prelude.{ℕ, ◌+◌, ◌-◌, List, [], ◌++◌, replicate}
-use Rattle.abi_det.specs.State.{carry}
+use Rattle.abi_det.specs.State.{imposed}
 use Rattle.abi_pack.specs.Plain.{Plain, Plains, list, variant, end, more}
 use Rattle.abi_pack.specs.Scalars.{stored}
 use Rattle.abi_layout.specs.Shape.{Shape, Shapes, scalar, fields, sum, last, field, size}
@@ -10,15 +10,15 @@ abbrev pub zeros : ℕ → List ℕ
 zeros n = replicate n 0
 
 -- n bytes that stand at `shift`, and zeros in the rest of `total` bytes
-abbrev pub placed : ℕ → ℕ → ℕ → List ℕ → List ℕ
-placed total shift n xs = zeros shift ++ (xs ++ zeros (total - (shift + n)))
+abbrev pub zero_padded : ℕ → ℕ → ℕ → List ℕ → List ℕ
+zero_padded total shift n xs = zeros shift ++ (xs ++ zeros (total - (shift + n)))
 
 abbrev mutual
   pub packed : Shape → Plain → List ℕ
   packed (scalar c) v = stored c v
   packed (fields compound n fs) (list vs) = packed_in n fs vs
   packed (sum names side at) (variant kind first v) =
-      carry at.determinant.test (sign_of at first) (placed at.size (start_of at first) (size (side first)) (packed (side first) v))
+      imposed at.determinant.test (sign_of at first) (zero_padded at.size (start_of at first) (size (side first)) (packed (side first) v))
   packed _ _ = []
 
   -- of n bytes

@@ -6,7 +6,7 @@ use Rattle.abi_det.specs.Offers.{Rules}
 use Rattle.abi_layout.specs.Faults.{desc_fault}
 use Rattle.abi_layout.specs.Frames.{written_frame}
 use Rattle.abi_layout.specs.PartView.{shape}
-use Rattle.abi_layout.specs.Plans.{planned}
+use Rattle.abi_layout.specs.Plans.{shape_of}
 use Rattle.abi_layout.specs.Sums.{written_sums}
 use Rattle.abi_layout.specs.Trees.{Tree}
 use Rattle.abi_layout.specs.declared.part.Part.{Part}
@@ -21,7 +21,7 @@ pub record Packing : Type 0 where
 -- the plan is that of this description, which has no fault, under the rules on the target
 pub record IsPlanOf (p : Packing) (rules : Rules) (target : Target) (t : Tree) : Type 0 where
   pub faultless : desc_fault rules target t ≡ None
-  pub part : shape p.part ≡ planned rules target t
+  pub part : shape p.part ≡ shape_of rules target t
   pub layout : p.layout ≡ written_frame rules target t
   pub sums : p.sums ≡ written_sums rules target 0 t
 

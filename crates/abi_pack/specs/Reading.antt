@@ -3,7 +3,7 @@ use Rattle.std.specs.Prelude.{ℕ, List, Result, Ok, Err}
 use Rattle.abi_num.specs.declared.target.Target.{Target}
 use Rattle.abi_det.specs.Offers.{Rules}
 use Rattle.abi_layout.specs.Trees.{Tree}
-use Rattle.abi_pack.specs.Image.{bytes_of}
+use Rattle.abi_pack.specs.ByteMap.{bytes_of}
 use Rattle.abi_pack.specs.Plain.{Plain}
 use Rattle.abi_pack.specs.Values.{Shows, IsLong}
 use Rattle.abi_pack.specs.View.{plain}

@@ -1,7 +1,7 @@
 -- Values without parts: which they are, and the bytes in which each stands.
 use Rattle.std.specs.Prelude.{◌≡◌, ◌<◌, ℕ, zero, suc, ◌+◌, ◌-◌, ◌*◌, ◌/◌, ◌%◌, ◌^◌, List, [], ◌∷◌, reverse, Bool, true, false, ◌&&◌, ◌||◌, nat_le, nat_lt, if◌then◌else◌}
 use Rattle.abi_layout.specs.Prims.{width_size, scalar_size}
-use Rattle.abi_pack.specs.Image.{Image, firsts, bytes_of}
+use Rattle.abi_pack.specs.ByteMap.{ByteMap, firsts, bytes_of}
 use Rattle.abi_pack.specs.Plain.{Plain, unit, integer, boolean}
 use Rattle.abi_layout.specs.declared.scalar.Scalar.{Scalar}
 use Rattle.abi_layout.specs.declared.scalar.Scalar.TheVariants as scalars
@@ -51,26 +51,26 @@ stored (scalars.Int f) (integer magnitude negative) = ordered f.little (low_byte
 stored _ _ = []
 
 -- the number in the bytes
-abbrev pub number_in : Integer → Image → ℕ
+abbrev pub number_in : Integer → ByteMap → ℕ
 number_in f image = low_worth (ordered f.little (firsts (width_size f.width) image))
 
 -- the bytes are those of some value of the primitive
-abbrev pub is_legal : Scalar → Image → Bool
+abbrev pub is_legal : Scalar → ByteMap → Bool
 is_legal scalars.Unit image = true
 is_legal scalars.Bool image = nat_lt (image 0) 2
 is_legal (scalars.Int f) image = f.zero || nat_lt 0 (number_in f image)
 
-abbrev pub int_told : Integer → ℕ → Plain
-int_told f number = if f.signed && nat_le (half f.width) number then integer (full f.width - number) true else integer number false
+abbrev pub integer_shown : Integer → ℕ → Plain
+integer_shown f number = if f.signed && nat_le (half f.width) number then integer (full f.width - number) true else integer number false
 
 -- the value that legal bytes show
-abbrev pub scalar_told : Scalar → Image → Plain
-scalar_told scalars.Unit image = unit
-scalar_told scalars.Bool image = boolean (nat_lt 0 (image 0))
-scalar_told (scalars.Int f) image = int_told f (number_in f image)
+abbrev pub scalar_shown : Scalar → ByteMap → Plain
+scalar_shown scalars.Unit image = unit
+scalar_shown scalars.Bool image = boolean (nat_lt 0 (image 0))
+scalar_shown (scalars.Int f) image = integer_shown f (number_in f image)
 
 -- the bytes are those in which the value stands
-pub record ShowsScalar (c : Scalar) (v : Plain) (f : Image) : Type 0 where
+pub record ShowsScalar (c : Scalar) (v : Plain) (f : ByteMap) : Type 0 where
   pub value : is_value c v ≡ true
   pub same : (i : ℕ) → i < scalar_size c → f i ≡ bytes_of (stored c v) i
 

@@ -2,20 +2,20 @@
 use Rattle.std.specs.Prelude.{◌≡◌, ℕ, ◌+◌, ◌-◌, ◌<◌, Bool, true, false, ◌&&◌, ◌||◌, nat_lt, if◌then◌else◌}
 use Rattle.std.specs.Int.{bit_at}
 use Rattle.abi_det.specs.State.{is_state_ok}
-use Rattle.abi_pack.specs.Image.{Image, from}
+use Rattle.abi_pack.specs.ByteMap.{ByteMap, seen_from}
 use Rattle.abi_pack.specs.Plain.{Plain, Plains, list, variant, end, more}
 use Rattle.abi_pack.specs.Scalars.{is_value, ShowsScalar, scalar_holds}
 use Rattle.abi_layout.specs.Shape.{Shape, Shapes, scalar, fields, sum, last, field, size}
 pub use Rattle.abi_pack.specs.Variants.{same_sort, truth_of, held_at, holds_test}
-use Rattle.abi_layout.specs.declared.part.Spot.{Spot}
+use Rattle.abi_layout.specs.declared.part.SumLayout.{SumLayout}
 
 -- where a variant starts
-abbrev pub start_of : Spot → Bool → ℕ
+abbrev pub start_of : SumLayout → Bool → ℕ
 start_of at true = at.ok
 start_of at false = at.err
 
 -- the test's truth that names a variant
-abbrev pub sign_of : Spot → Bool → Bool
+abbrev pub sign_of : SumLayout → Bool → Bool
 sign_of at first = truth_of at.determinant first
 
 -- the value is one of the shape's
@@ -33,16 +33,16 @@ abbrev mutual
 
 -- the bytes show the value
 abbrev mutual
-  pub Shows : Shape → Plain → Image → Type 0
+  pub Shows : Shape → Plain → ByteMap → Type 0
   Shows (scalar c) v f = ShowsScalar c v f
   Shows (fields compound n fs) (list vs) f = ShowIn fs vs f
   Shows (sum names side at) (variant kind first v) f =
-      (same_sort names kind ≡ true) × (is_state_ok at.determinant f ≡ first) × Shows (side first) v (from (start_of at first) f)
+      (same_sort names kind ≡ true) × (is_state_ok at.determinant f ≡ first) × Shows (side first) v (seen_from (start_of at first) f)
   Shows _ _ f = ⊥
 
-  pub ShowIn : Shapes → Plains → Image → Type 0
+  pub ShowIn : Shapes → Plains → ByteMap → Type 0
   ShowIn last end f = Unit {0}
-  ShowIn (field gap s fs) (more v vs) f = Shows s v (from gap f) × ShowIn fs vs (from (gap + size s) f)
+  ShowIn (field gap s fs) (more v vs) f = Shows s v (seen_from gap f) × ShowIn fs vs (seen_from (gap + size s) f)
   ShowIn _ _ f = ⊥
 
 -- the value holds bit k of byte i
@@ -60,6 +60,6 @@ abbrev mutual
   holds_in _ _ i k = false
 
 -- the bytes show the value, and every bit that it does not hold is 0
-pub record IsCanonical (s : Shape) (v : Plain) (f : Image) : Type 0 where
+pub record IsCanonical (s : Shape) (v : Plain) (f : ByteMap) : Type 0 where
   pub shows : Shows s v f
   pub clear : (i k : ℕ) → i < size s → k < 8 → holds s v i k ≡ false → bit_at (f i) k ≡ 0

@@ -14,7 +14,7 @@ use Rattle.abi_layout.specs.Trees.{Tree, Branches, prim, struct, sum, none, fiel
 use Rattle.abi_layout.specs.declared.scalar.Integer.{Integer}
 use Rattle.abi_layout.specs.declared.scalar.Scalar.{Scalar}
 use Rattle.abi_layout.specs.declared.scalar.Scalar.TheVariants as scalars
-use Rattle.abi_pack.specs.Image.{Image, AreBytes, bytes_of, from}
+use Rattle.abi_pack.specs.ByteMap.{ByteMap, AreBytes, bytes_of, seen_from}
 use Rattle.abi_pack.specs.Plain.{Plain, Plains, unit, integer, boolean, list, variant, end, more}
 use Rattle.abi_pack.specs.Variants.{same_sort, held_at, holds_test}
 
@@ -38,16 +38,16 @@ abbrev pub weight : Bool → ℕ → ℕ → ℕ
 weight little n i = 256 ^ (if little then i else n - (i + 1))
 
 -- what the first m of n bytes count for together
-abbrev pub counted : Bool → ℕ → ℕ → Image → ℕ
+abbrev pub counted : Bool → ℕ → ℕ → ByteMap → ℕ
 counted little n zero f = 0
 counted little n (suc m) f = counted little n m f + f m * weight little n m
 
 -- the number in n bytes, the least significant first where `little`
-abbrev pub number : Bool → ℕ → Image → ℕ
+abbrev pub number : Bool → ℕ → ByteMap → ℕ
 number little n f = counted little n n f
 
 -- the bytes are those of the value; a number below 0 stands as far below 256 ^ n
-abbrev pub ShowsPrim : Scalar → Plain → Image → Type 0
+abbrev pub ShowsPrim : Scalar → Plain → ByteMap → Type 0
 ShowsPrim scalars.Unit unit f = Unit {0}
 ShowsPrim scalars.Bool (boolean b) f = f 0 ≡ (if b then 1 else 0)
 ShowsPrim (scalars.Int g) (integer magnitude false) f =
@@ -85,21 +85,21 @@ abbrev mutual
 
 -- the bytes show the value
 abbrev mutual
-  pub Shows : Rules → Target → Tree → Plain → Image → Type 0
+  pub Shows : Rules → Target → Tree → Plain → ByteMap → Type 0
   Shows rules target (prim p) v f = ShowsPrim (scalar_of target p) v f
   Shows rules target (struct label fs align) (list vs) f =
       ShowIn rules target fs (positions 0 (written_frames rules target fs)) vs f
   Shows rules target (sum names side) (variant kind first v) f =
       (same_sort names kind ≡ true)
       × (is_state_ok (placement_of rules target side).determinant f ≡ first)
-      × Shows rules target (side first) v (from (variant_start (placement_of rules target side) first) f)
+      × Shows rules target (side first) v (seen_from (variant_start (placement_of rules target side) first) f)
   Shows rules target _ _ f = ⊥
 
   -- each field's bytes, from its position, show its value
-  pub ShowIn : Rules → Target → Branches → List Positioned → Plains → Image → Type 0
+  pub ShowIn : Rules → Target → Branches → List Positioned → Plains → ByteMap → Type 0
   ShowIn rules target none [] end f = Unit {0}
   ShowIn rules target (field name t fs) (p ∷ ps) (more v vs) f =
-      Shows rules target t v (from p.start f) × ShowIn rules target fs ps vs f
+      Shows rules target t v (seen_from p.start f) × ShowIn rules target fs ps vs f
   ShowIn rules target _ _ _ f = ⊥
 
 -- the value holds bit k of byte i
@@ -121,7 +121,7 @@ abbrev mutual
   holds_in rules target _ _ _ i k = false
 
 -- the bytes show the value, and every bit that it does not hold is 0
-pub record IsCanonical (rules : Rules) (target : Target) (t : Tree) (v : Plain) (f : Image) : Type 0 where
+pub record IsCanonical (rules : Rules) (target : Target) (t : Tree) (v : Plain) (f : ByteMap) : Type 0 where
   pub shows : Shows rules target t v f
   pub clear : (i k : ℕ) → i < (written_frame rules target t).size → k < 8 → holds rules target t v i k ≡ false
       → bit_at (f i) k ≡ 0

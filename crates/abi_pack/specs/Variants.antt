@@ -1,6 +1,6 @@
 -- The variants of a sum: what they are called, the truth that names each, and the bits that each holds.
 use Rattle.std.specs.Prelude.{ℕ, ◌+◌, ◌-◌, Bool, true, false, ◌&&◌, not, nat_lt, if◌then◌else◌}
-use Rattle.abi_det.specs.Owed.{is_carried}
+use Rattle.abi_det.specs.SoundPlacement.{is_imposed}
 use Rattle.abi_det.specs.State.{is_tested}
 use Rattle.abi_det.specs.declared.determinant.Determinant.{Determinant}
 use Rattle.abi_layout.specs.declared.part.Sort.{Sort}
@@ -23,4 +23,4 @@ held_at start n held i k = if nat_lt i start then false else (if nat_lt i (start
 
 -- the one bit of a tag or of a shared bit, and the bytes of a pattern where its presence names the variant
 abbrev pub holds_test : Determinant → Bool → ℕ → ℕ → Bool
-holds_test d first i k = is_carried d.test (truth_of d first) && is_tested d.test i k
+holds_test d first i k = is_imposed d.test (truth_of d first) && is_tested d.test i k

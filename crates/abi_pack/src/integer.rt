@@ -1,6 +1,6 @@
 ghost use Rattle.std.specs.Prelude.{◌≡◌, true, ◌+◌, ◌-◌, ◌<◌, ◌≤◌, length, if◌then◌else◌};
 ghost use Rattle.abi_layout.specs.Prims.{width_size};
-ghost use Rattle.abi_pack.specs.Scalars.{full, is_int, low_bytes, low_worth, ordered, coded, int_told};
+ghost use Rattle.abi_pack.specs.Scalars.{full, is_int, low_bytes, low_worth, ordered, coded, integer_shown};
 ghost use Rattle.abi_pack.specs.View.{plain};
 
 use crate::value::Value;
@@ -48,9 +48,9 @@ pub(crate) fn coded_integer(integer: &Integer, magnitude: u128, negative: bool) 
 }
 
 /// The integer for which the number stands.
-pub(crate) fn told_integer(integer: &Integer, number: u128) -> Value
+pub(crate) fn integer_shown(integer: &Integer, number: u128) -> Value
     requires { number < full integer.now.width }
-    ensures { plain result ≡ int_told integer.now number }
+    ensures { plain result ≡ integer_shown integer.now number }
 {
     let most = greatest(integer.width);
     if integer.signed && most / 2 < number {

@@ -41,12 +41,12 @@ impl Model for Plan {
     ghost coded = { Prim.hlevel (codes, e.the_row.coded) };
 
     ghost use Rattle.abi_pack.specs.Packing.{IsSomePlan};
-    ghost use Rattle.abi_pack.specs.Planned.{IsPlanned};
+    ghost use Rattle.abi_pack.specs.PlanShape.{IsPlanShape};
     ghost use Rattle.abi_layout.specs.PartView.{shape};
 
     ghost view = { λ p. record { part = p.part; layout = p.layout; sums = p.placed } };
 
-    ghost invariant = { λ p. IsPlanned (shape p.part) × IsSomePlan (record { part = p.part; layout = p.layout; sums = p.placed }) };
+    ghost invariant = { λ p. IsPlanShape (shape p.part) × IsSomePlan (record { part = p.part; layout = p.layout; sums = p.placed }) };
 }
 
 impl Plan {

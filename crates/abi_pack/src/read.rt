@@ -1,11 +1,11 @@
 ghost use Rattle.std.specs.Prelude.{◌≡◌, true, false, ◌+◌, ◌≤◌, ◌<◌, ◌^◌, IfOk, OnOk, length, slice_index};
-ghost use Rattle.abi_pack.specs.Image.{from};
+ghost use Rattle.abi_pack.specs.ByteMap.{seen_from};
 ghost use Rattle.abi_pack.specs.Plain.{unit, variant, end};
 ghost use Rattle.abi_layout.specs.Shape.{size, size_in, repeated};
 ghost use Rattle.abi_pack.specs.Shows.{same_sort};
-ghost use Rattle.abi_pack.specs.Sound.{IsSound, AreSound};
+ghost use Rattle.abi_pack.specs.Consistent.{IsConsistent, AreConsistent};
 ghost use Rattle.abi_layout.specs.Plans.{IsNamed, AreNamed};
-ghost use Rattle.abi_pack.specs.Told.{told, told_in};
+ghost use Rattle.abi_pack.specs.ValueShown.{value_shown, values_shown};
 ghost use Rattle.abi_pack.specs.View.{shape, shapes, plain, joined};
 
 use crate::scalars;
@@ -23,14 +23,14 @@ pub(crate) fn read(
     bytes: &[u8],
     at: usize,
 ) -> Result<Value, OutOfMemory>
-    requires sound { IsSound (shape part.now) }
+    requires sound { IsConsistent (shape part.now) }
     requires named { IsNamed (shape part.now) }
     requires small { length bytes.now < 2 ^ 32 }
     requires within { at + size (shape part.now) ≤ length bytes.now }
-    ensures { IfOk result (λ v. plain v ≡ told (shape part.now) (from at (slice_index bytes.now))) }
+    ensures { IfOk result (λ v. plain v ≡ value_shown (shape part.now) (seen_from at (slice_index bytes.now))) }
 {
     match part {
-        Part::Scalar(scalar) => Ok(scalars::told(scalar, bytes, at)),
+        Part::Scalar(scalar) => Ok(scalars::value_shown(scalar, bytes, at)),
         Part::Struct { fields, .. } => {
             let mut values = Items::new(alloc);
             read_all(alloc, fields.as_slice(), bytes, at, &mut values)?;
@@ -45,11 +45,11 @@ pub(crate) fn read(
             names,
             ok,
             err,
-            spot,
+            sum_layout,
         } => {
-            let first = spot.determinant.is_det_ok(&bytes[at..]);
+            let first = sum_layout.determinant.is_det_ok(&bytes[at..]);
             let variant = side(ok, err, first);
-            let payload = read(alloc, variant, bytes, at + start(spot, first))?;
+            let payload = read(alloc, variant, bytes, at + start(sum_layout, first))?;
             let value = variant_value(alloc, names, first, payload)?;
             Ok(value)
         }
@@ -65,11 +65,11 @@ fn read_all(
     at: usize,
     values: &mut Values,
 ) -> Result<(), OutOfMemory>
-    requires sound { AreSound (shapes fields.now) }
+    requires sound { AreConsistent (shapes fields.now) }
     requires named { AreNamed (shapes fields.now) }
     requires small { length bytes.now < 2 ^ 32 }
     requires within { at + size_in (shapes fields.now) ≤ length bytes.now }
-    ensures { OnOk result (joined values.new end ≡ joined values.old (told_in (shapes fields.now) (from at (slice_index bytes.now)))) }
+    ensures { OnOk result (joined values.new end ≡ joined values.old (values_shown (shapes fields.now) (seen_from at (slice_index bytes.now)))) }
 {
     match fields.split_first() {
         Some((field, fields)) => {
@@ -95,11 +95,11 @@ fn read_each(
     at: usize,
     values: &mut Values,
 ) -> Result<(), OutOfMemory>
-    requires sound { AreSound (repeated len (shape item.now)) }
+    requires sound { AreConsistent (repeated len (shape item.now)) }
     requires named { AreNamed (repeated len (shape item.now)) }
     requires small { length bytes.now < 2 ^ 32 }
     requires within { at + size_in (repeated len (shape item.now)) ≤ length bytes.now }
-    ensures { OnOk result (joined values.new end ≡ joined values.old (told_in (repeated len (shape item.now)) (from at (slice_index bytes.now)))) }
+    ensures { OnOk result (joined values.new end ≡ joined values.old (values_shown (repeated len (shape item.now)) (seen_from at (slice_index bytes.now)))) }
 {
     if len == 0 {
         return Ok(());

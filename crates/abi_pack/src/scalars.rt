@@ -1,10 +1,10 @@
 ghost use Rattle.std.specs.Prelude.{◌≡◌, true, ◌+◌, ◌<◌, ◌≤◌, length, slice_index};
 ghost use Rattle.abi_layout.specs.Prims.{scalar_size};
-ghost use Rattle.abi_pack.specs.Scalars.{full, is_value, stored, is_legal, scalar_told, number_in as number_there};
-ghost use Rattle.abi_pack.specs.Image.{from};
+ghost use Rattle.abi_pack.specs.Scalars.{full, is_value, stored, is_legal, scalar_shown, number_in as number_there};
+ghost use Rattle.abi_pack.specs.ByteMap.{seen_from};
 ghost use Rattle.abi_pack.specs.View.{plain};
 
-use crate::integer::{has_integer, number_in, told_integer, write_integer};
+use crate::integer::{has_integer, integer_shown, number_in, write_integer};
 use crate::value::Value;
 use abi_layout::{Integer, Scalar};
 
@@ -48,7 +48,7 @@ pub(crate) fn write(scalar: &Scalar, value: &Value, out: &mut [u8])
 /// Whether the bytes from `at` on are those of some value of the scalar.
 pub(crate) fn is_legal(scalar: &Scalar, bytes: &[u8], at: usize) -> bool
     requires { at + scalar_size scalar.now ≤ length bytes.now }
-    ensures { result ≡ is_legal scalar.now (from at (slice_index bytes.now)) }
+    ensures { result ≡ is_legal scalar.now (seen_from at (slice_index bytes.now)) }
 {
     match scalar {
         Scalar::Unit => true,
@@ -61,21 +61,21 @@ pub(crate) fn is_legal(scalar: &Scalar, bytes: &[u8], at: usize) -> bool
 }
 
 /// The value that the bytes from `at` on show; they are legal.
-pub(crate) fn told(scalar: &Scalar, bytes: &[u8], at: usize) -> Value
+pub(crate) fn value_shown(scalar: &Scalar, bytes: &[u8], at: usize) -> Value
     requires { at + scalar_size scalar.now ≤ length bytes.now }
-    ensures { plain result ≡ scalar_told scalar.now (from at (slice_index bytes.now)) }
+    ensures { plain result ≡ scalar_shown scalar.now (seen_from at (slice_index bytes.now)) }
 {
     match scalar {
         Scalar::Unit => Value::Unit,
         Scalar::Bool => Value::Bool(0 < bytes[at]),
-        Scalar::Int(integer) => told_integer(integer, number_at(integer, bytes, at)),
+        Scalar::Int(integer) => integer_shown(integer, number_at(integer, bytes, at)),
     }
 }
 
 /// The number that stands in the bytes from `at` on.
 fn number_at(integer: &Integer, bytes: &[u8], at: usize) -> u128
     requires { at + scalar_size (Scalar.Int integer.now) ≤ length bytes.now }
-    ensures same { result ≡ number_there integer.now (from at (slice_index bytes.now)) }
+    ensures same { result ≡ number_there integer.now (seen_from at (slice_index bytes.now)) }
     ensures small { result < full integer.now.width }
 {
     let size = integer.width.bytes() as usize;

@@ -1,8 +1,8 @@
 ghost use Rattle.std.specs.Prelude.{◌≡◌, ◌+◌, ◌≤◌, ◌<◌, ◌^◌, length, slice_index};
-ghost use Rattle.abi_pack.specs.Image.{from};
+ghost use Rattle.abi_pack.specs.ByteMap.{seen_from};
 ghost use Rattle.abi_layout.specs.Shape.{size, size_in, repeated};
-ghost use Rattle.abi_pack.specs.Sound.{IsSound, AreSound};
-ghost use Rattle.abi_pack.specs.Told.{is_shown, is_shown_in};
+ghost use Rattle.abi_pack.specs.Consistent.{IsConsistent, AreConsistent};
+ghost use Rattle.abi_pack.specs.ValueShown.{is_shown, is_shown_in};
 ghost use Rattle.abi_pack.specs.View.{shape, shapes};
 
 use crate::scalars;
@@ -12,19 +12,24 @@ use abi_layout::{Part, PartField};
 /// Whether the bytes from `at` on show a value of the part.
 #[cycle(shown)]
 pub(crate) fn is_shown(part: &Part, bytes: &[u8], at: usize) -> bool
-    requires sound { IsSound (shape part.now) }
+    requires sound { IsConsistent (shape part.now) }
     requires small { length bytes.now < 2 ^ 32 }
     requires within { at + size (shape part.now) ≤ length bytes.now }
-    ensures { result ≡ is_shown (shape part.now) (from at (slice_index bytes.now)) }
+    ensures { result ≡ is_shown (shape part.now) (seen_from at (slice_index bytes.now)) }
 {
     match part {
         Part::Scalar(scalar) => scalars::is_legal(scalar, bytes, at),
         Part::Struct { fields, .. } => are_shown(fields.as_slice(), bytes, at),
         Part::Array { item, len, .. } => each_shown(item, *len, bytes, at),
-        Part::Sum { ok, err, spot, .. } => {
-            let first = spot.determinant.is_det_ok(&bytes[at..]);
+        Part::Sum {
+            ok,
+            err,
+            sum_layout,
+            ..
+        } => {
+            let first = sum_layout.determinant.is_det_ok(&bytes[at..]);
             let variant = side(ok, err, first);
-            is_shown(variant, bytes, at + start(spot, first))
+            is_shown(variant, bytes, at + start(sum_layout, first))
         }
     }
 }
@@ -32,10 +37,10 @@ pub(crate) fn is_shown(part: &Part, bytes: &[u8], at: usize) -> bool
 /// Whether the bytes from `at` on show a value of each field.
 #[cycle(shown)]
 fn are_shown(fields: &[PartField], bytes: &[u8], at: usize) -> bool
-    requires sound { AreSound (shapes fields.now) }
+    requires sound { AreConsistent (shapes fields.now) }
     requires small { length bytes.now < 2 ^ 32 }
     requires within { at + size_in (shapes fields.now) ≤ length bytes.now }
-    ensures { result ≡ is_shown_in (shapes fields.now) (from at (slice_index bytes.now)) }
+    ensures { result ≡ is_shown_in (shapes fields.now) (seen_from at (slice_index bytes.now)) }
 {
     match fields.split_first() {
         Some((field, fields)) => {
@@ -52,10 +57,10 @@ fn are_shown(fields: &[PartField], bytes: &[u8], at: usize) -> bool
 #[cycle(shown)]
 #[tactic(auto, using(crate::proofs::Rows::row_size_next, crate::proofs::Rows::row_shown_on, crate::proofs::Rows::row_shown_not, crate::proofs::Rows::row_point))]
 fn each_shown(item: &Part, len: u64, bytes: &[u8], at: usize) -> bool
-    requires sound { AreSound (repeated len (shape item.now)) }
+    requires sound { AreConsistent (repeated len (shape item.now)) }
     requires small { length bytes.now < 2 ^ 32 }
     requires within { at + size_in (repeated len (shape item.now)) ≤ length bytes.now }
-    ensures { result ≡ is_shown_in (repeated len (shape item.now)) (from at (slice_index bytes.now)) }
+    ensures { result ≡ is_shown_in (repeated len (shape item.now)) (seen_from at (slice_index bytes.now)) }
 {
     if len == 0 {
         return true;

@@ -1,11 +1,11 @@
 ghost use Rattle.std.specs.Prelude.{◌≡◌, ◌<◌, ◌^◌, length};
-ghost use Rattle.abi_det.specs.State.{IsCovered, carry};
+ghost use Rattle.abi_det.specs.State.{IsCovered, imposed};
 ghost use Rattle.abi_layout.specs.Shape.{size};
 ghost use Rattle.abi_pack.specs.Shows.{same_sort, start_of, sign_of};
 ghost use Rattle.abi_layout.specs.Trees.{sides};
 ghost use Rattle.abi_pack.specs.View.{shape};
 
-use abi_layout::{Part, Sort, Spot};
+use abi_layout::{Part, Sort, SumLayout};
 
 /// Whether the variants are called the same.
 pub(crate) fn is_same(names: &Sort, other: &Sort) -> bool
@@ -25,25 +25,25 @@ pub(crate) fn side<'a>(ok: &'a Part, err: &'a Part, first: bool) -> &'a Part
 }
 
 /// Where a variant starts in its sum, in bytes.
-pub(crate) fn start(spot: &Spot, first: bool) -> usize
-    ensures { result ≡ start_of spot.now first }
+pub(crate) fn start(sum_layout: &SumLayout, first: bool) -> usize
+    ensures { result ≡ start_of sum_layout.now first }
 {
     if first {
-        spot.ok as usize
+        sum_layout.ok as usize
     } else {
-        spot.err as usize
+        sum_layout.err as usize
     }
 }
 
 /// Makes the bytes of a sum name the variant.
-pub(crate) fn name_variant(spot: &Spot, first: bool, out: &mut [u8])
-    requires { IsCovered spot.now.determinant.test (length out.old) }
-    ensures { out.new ≡ carry spot.now.determinant.test (sign_of spot.now first) out.old }
+pub(crate) fn name_variant(sum_layout: &SumLayout, first: bool, out: &mut [u8])
+    requires { IsCovered sum_layout.now.determinant.test (length out.old) }
+    ensures { out.new ≡ imposed sum_layout.now.determinant.test (sign_of sum_layout.now first) out.old }
 {
     if first {
-        spot.determinant.ok(out);
+        sum_layout.determinant.ok(out);
     } else {
-        spot.determinant.err(out);
+        sum_layout.determinant.err(out);
     }
 }
 
@@ -55,6 +55,6 @@ pub(crate) fn size(part: &Part) -> usize
         Part::Scalar(scalar) => scalar.size() as usize,
         Part::Struct { size, .. } => *size as usize,
         Part::Array { size, .. } => *size as usize,
-        Part::Sum { spot, .. } => spot.size as usize,
+        Part::Sum { sum_layout, .. } => sum_layout.size as usize,
     }
 }

@@ -1,8 +1,8 @@
 ghost use Rattle.std.specs.Prelude.{◌≡◌, true, ◌+◌, ◌≤◌, ◌<◌, ◌^◌, length, IfOk};
-ghost use Rattle.abi_pack.specs.Packed.{packed, packed_in, placed};
+ghost use Rattle.abi_pack.specs.Packed.{packed, packed_in, zero_padded};
 ghost use Rattle.abi_layout.specs.Shape.{size, size_in, repeated};
 ghost use Rattle.abi_pack.specs.Shows.{fits, fits_in};
-ghost use Rattle.abi_pack.specs.Sound.{IsSound, AreSound};
+ghost use Rattle.abi_pack.specs.Consistent.{IsConsistent, AreConsistent};
 ghost use Rattle.abi_pack.specs.View.{shape, shapes, plain, plains};
 
 use crate::scalars;
@@ -14,7 +14,7 @@ use std::alloc::Global;
 
 /// The value's canonical bytes.
 pub(crate) fn packed(alloc: Global, part: &Part, value: &Value) -> Result<Bytes, OutOfMemory>
-    requires sound { IsSound (shape part.now) }
+    requires sound { IsConsistent (shape part.now) }
     requires small { size (shape part.now) < 2 ^ 32 }
     requires fits { fits (shape part.now) (plain value.now) ≡ true }
     ensures { IfOk result (λ bytes. bytes ≡ packed (shape part.now) (plain value.now)) }
@@ -27,7 +27,7 @@ pub(crate) fn packed(alloc: Global, part: &Part, value: &Value) -> Result<Bytes,
 /// Writes the value's canonical bytes, whatever stood there.
 #[cycle(write)]
 pub(crate) fn write(part: &Part, value: &Value, out: &mut [u8])
-    requires sound { IsSound (shape part.now) }
+    requires sound { IsConsistent (shape part.now) }
     requires small { size (shape part.now) < 2 ^ 32 }
     requires fits { fits (shape part.now) (plain value.now) ≡ true }
     requires room { length out.old ≡ size (shape part.now) }
@@ -45,12 +45,17 @@ pub(crate) fn write(part: &Part, value: &Value, out: &mut [u8])
                 write_each(item, *len, values, out);
             }
         }
-        Part::Sum { ok, err, spot, .. } => {
+        Part::Sum {
+            ok,
+            err,
+            sum_layout,
+            ..
+        } => {
             let unit = Value::Unit;
             if let Some(variant) = value.as_variant(&unit) {
                 let part = side(ok, err, variant.first);
-                write_at(part, variant.payload, start(spot, variant.first), out);
-                name_variant(spot, variant.first, out);
+                write_at(part, variant.payload, start(sum_layout, variant.first), out);
+                name_variant(sum_layout, variant.first, out);
             }
         }
     }
@@ -59,11 +64,11 @@ pub(crate) fn write(part: &Part, value: &Value, out: &mut [u8])
 /// Writes the value's canonical bytes at `shift`, and zeros around them.
 #[cycle(write)]
 fn write_at(part: &Part, value: &Value, shift: usize, out: &mut [u8])
-    requires sound { IsSound (shape part.now) }
+    requires sound { IsConsistent (shape part.now) }
     requires small { length out.old < 2 ^ 32 }
     requires fits { fits (shape part.now) (plain value.now) ≡ true }
     requires room { shift + size (shape part.now) ≤ length out.old }
-    ensures { out.new ≡ placed (length out.old) shift (size (shape part.now)) (packed (shape part.now) (plain value.now)) }
+    ensures { out.new ≡ zero_padded (length out.old) shift (size (shape part.now)) (packed (shape part.now) (plain value.now)) }
 {
     let (before, rest) = out.split_at_mut(shift);
     before.fill(0);
@@ -75,7 +80,7 @@ fn write_at(part: &Part, value: &Value, shift: usize, out: &mut [u8])
 /// Writes the values of the fields, and zeros between and after them.
 #[cycle(write)]
 fn write_all(fields: &[PartField], values: &[Value], out: &mut [u8])
-    requires sound { AreSound (shapes fields.now) }
+    requires sound { AreConsistent (shapes fields.now) }
     requires small { length out.old < 2 ^ 32 }
     requires fits { fits_in (shapes fields.now) (plains values.now) ≡ true }
     requires room { size_in (shapes fields.now) ≤ length out.old }
@@ -97,7 +102,7 @@ fn write_all(fields: &[PartField], values: &[Value], out: &mut [u8])
 /// Writes the `len` values one after another, and zeros after them.
 #[cycle(write)]
 fn write_each(item: &Part, len: u64, values: &[Value], out: &mut [u8])
-    requires sound { AreSound (repeated len (shape item.now)) }
+    requires sound { AreConsistent (repeated len (shape item.now)) }
     requires small { length out.old < 2 ^ 32 }
     requires fits { fits_in (repeated len (shape item.now)) (plains values.now) ≡ true }
     requires room { size_in (repeated len (shape item.now)) ≤ length out.old }

@@ -7,7 +7,7 @@ use Rattle.abi_det.specs.Offers.{One}
 use Rattle.abi_layout.specs.Faults.{desc_fault}
 use Rattle.abi_layout.specs.Frames.{written_frame}
 use Rattle.abi_layout.specs.Trees.{Tree}
-use Rattle.abi_pack.specs.Image.{Image as Bytes, AreBytes, bytes_of}
+use Rattle.abi_pack.specs.ByteMap.{ByteMap as Bytes, AreBytes, bytes_of}
 use Rattle.abi_pack.specs.Jobs.{job_fault, image_of}
 use Rattle.abi_pack.specs.Plain.{Plain}
 use Rattle.abi_pack.specs.Values.{Shows, IsImageOf}

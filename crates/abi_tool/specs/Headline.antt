@@ -17,7 +17,7 @@ use Rattle.abi_layout.specs.Frames.{written_frame}
 use Rattle.abi_layout.specs.Sums.{written_sums}
 use Rattle.abi_layout.specs.Trees as trees
 use Rattle.abi_layout.specs.Trees.{Tree, Branches}
-use Rattle.abi_pack.specs.Image.{Image as Bytes, AreBytes, bytes_of}
+use Rattle.abi_pack.specs.ByteMap.{ByteMap as Bytes, AreBytes, bytes_of}
 use Rattle.abi_pack.specs.Jobs.{job_fault}
 use Rattle.abi_pack.specs.Laws.{bit_of}
 use Rattle.abi_pack.specs.Plain.{Plain}

@@ -1,5 +1,5 @@
 use Rattle.std.proofs.Common.{◌∙◌}
-use Rattle.abi_det.proofs.Owed.{placement_owed}
+use Rattle.abi_det.proofs.SoundPlacements.{placement_sound}
 use Rattle.abi_det.proofs.Places.{written_niched, written_tagged}
 use Rattle.abi_det.proofs.sum.placement_by.Goals as goal
 
@@ -11,10 +11,10 @@ returns-in-Some-clause-written c =
 pub returns-in-Some-clause-placed : goal.returns-in-Some-clause-placed
 returns-in-Some-clause-placed c = (c.args.rules, returns-in-Some-clause-written c)
 
-pub returns-in-Some-clause-owed : goal.returns-in-Some-clause-owed
-returns-in-Some-clause-owed c =
-    let sound = rw (c.new-roles.ensures.large, c.new-roles.ensures.small) at c.in_ok-patterns.ensures.sound in
-    placement_owed c.args.rules c.args.ok.now c.args.err.now _ sound.0 sound.1 (returns-in-Some-clause-written c)
+pub returns-in-Some-clause-sound : goal.returns-in-Some-clause-sound
+returns-in-Some-clause-sound c =
+    let sound = rw (c.new-roles.ensures.large, c.new-roles.ensures.small) at c.in_ok-patterns.ensures.well_formed in
+    placement_sound c.args.rules c.args.ok.now c.args.err.now _ sound.0 sound.1 (returns-in-Some-clause-written c)
 
 pub returns-clause-written : goal.returns-clause-written
 returns-clause-written c =
@@ -24,7 +24,7 @@ returns-clause-written c =
 pub returns-clause-placed : goal.returns-clause-placed
 returns-clause-placed c = (c.args.rules, returns-clause-written c)
 
-pub returns-clause-owed : goal.returns-clause-owed
-returns-clause-owed c =
-    let sound = rw (c.new-roles.ensures.large, c.new-roles.ensures.small) at c.in_ok-patterns.ensures.sound in
-    placement_owed c.args.rules c.args.ok.now c.args.err.now _ sound.0 sound.1 (returns-clause-written c)
+pub returns-clause-sound : goal.returns-clause-sound
+returns-clause-sound c =
+    let sound = rw (c.new-roles.ensures.large, c.new-roles.ensures.small) at c.in_ok-patterns.ensures.well_formed in
+    placement_sound c.args.rules c.args.ok.now c.args.err.now _ sound.0 sound.1 (returns-clause-written c)

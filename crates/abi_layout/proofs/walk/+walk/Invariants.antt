@@ -2,7 +2,7 @@ use Rattle.std.proofs.Common.{◌≡◌, ◌+◌, ◌*◌, ◌≤◌, ◌++◌, 
 use Rattle.abi_layout.specs.Faults.{part_fault_in}
 use Rattle.abi_layout.specs.Frames.{written_frames}
 use Rattle.abi_layout.specs.Trees.{branches, parts_in}
-use Rattle.abi_layout.specs.Plans.{planned_in, AreNamed}
+use Rattle.abi_layout.specs.Plans.{shapes_of, AreNamed}
 use Rattle.abi_layout.specs.Sums.{written_sums_in}
 use Rattle.abi_layout.specs.PartView.{shapes}
 use Rattle.abi_layout.proofs.Walking.{fronted}
@@ -12,7 +12,7 @@ use Rattle.abi_layout.proofs.walk.+walk.Given as goal
 -- took less than 2^21 bytes
 abbrev pub invariant-lay_out_fields-loop-field : goal.invariant-lay_out_fields-loop-field
 invariant-lay_out_fields-loop-field l = record {
-  fields : fronted l.laid (planned_in l.rules l.target l.end (branches (drop l.field-index l.fields))) ≡ planned_in l.rules l.target 0 (branches l.fields);
+  fields : fronted l.laid (shapes_of l.rules l.target l.end (branches (drop l.field-index l.fields))) ≡ shapes_of l.rules l.target 0 (branches l.fields);
   named : AreNamed (shapes l.laid);
   frames : l.layouts ++ written_frames l.rules l.target (branches (drop l.field-index l.fields)) ≡ written_frames l.rules l.target (branches l.fields);
   bound : l.end ≤ 2097152 * l.part;

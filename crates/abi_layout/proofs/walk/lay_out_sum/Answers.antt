@@ -5,12 +5,12 @@ use Rattle.abi_layout.proofs.walk.lay_out_sum.Goals as goal
 
 pub taken_apart-requires-clause-ok : goal.taken_apart-requires-clause-ok
 taken_apart-requires-clause-ok c =
-    let inside = starts_inside c.args.rules c.args.ok.layout c.args.err.layout c.in_ok-placement.placement c.in_ok-placement.layout c.in_ok-placement.ensures.owed
+    let inside = starts_inside c.args.rules c.args.ok.layout c.args.err.layout c.in_ok-placement.placement c.in_ok-placement.layout c.in_ok-placement.ensures.sound
     c.in_ok-placement.ensures.placement c.in_ok-placement.ensures.layout c.size.ensures.lawful in omega (arith, inside.0)
 
 pub taken_apart-requires-clause-err : goal.taken_apart-requires-clause-err
 taken_apart-requires-clause-err c =
-    let inside = starts_inside c.args.rules c.args.ok.layout c.args.err.layout c.in_ok-placement.placement c.in_ok-placement.layout c.in_ok-placement.ensures.owed
+    let inside = starts_inside c.args.rules c.args.ok.layout c.args.err.layout c.in_ok-placement.placement c.in_ok-placement.layout c.in_ok-placement.ensures.sound
     c.in_ok-placement.ensures.placement c.in_ok-placement.ensures.layout c.size.ensures.lawful in omega (arith, inside.1)
 
 pub returns-in_err-insert-clause-err : goal.returns-in_err-insert-clause-err

@@ -6,7 +6,7 @@ use Rattle.abi_pack.proofs.read.+read.Goals as goal
 
 pub read-is_det_ok-first-requires : goal.read-is_det_ok-first-requires
 read-is_det_ok-first-requires t c =
-    covered_rest c.args.part.now c.in-Sum.names c.in-Sum.ok c.in-Sum.err c.in-Sum.spot c.args.at c.args.bytes.now c.in-Sum.is c.requires.sound c.requires.within
+    covered_rest c.args.part.now c.in-Sum.names c.in-Sum.ok c.in-Sum.err c.in-Sum.sum_layout c.args.at c.args.bytes.now c.in-Sum.is c.requires.sound c.requires.within
 
 pub read-returns-in_ok-read_all-in-Struct : goal.read-returns-in_ok-read_all-in-Struct
 read-returns-in_ok-read_all-in-Struct t c =
@@ -21,9 +21,9 @@ read-returns-in_ok-read_each-in-Array t c =
 pub read-returns-in_ok-value-in-Sum : goal.read-returns-in_ok-value-in-Sum
 read-returns-in_ok-value-in-Sum t c =
     c.in_ok-value-in-Sum.ensures
-    ∙ told_sum c.args.part.now c.side-variant.result.now c.in-Sum.names c.in-Sum.ok c.in-Sum.err c.in-Sum.spot c.is_det_ok-first.result (slice_index c.args.bytes.now) c.args.at
+    ∙ told_sum c.args.part.now c.side-variant.result.now c.in-Sum.names c.in-Sum.ok c.in-Sum.err c.in-Sum.sum_layout c.is_det_ok-first.result (slice_index c.args.bytes.now) c.args.at
     (c.args.at + c.start.result) (plain c.in_ok-payload-in-Sum.payload) c.in-Sum.is (rw (← c.deref-in-Sum.ensures, ← c.deref-in-Sum-2.ensures) c.side-variant.ensures)
-    (state_rest c.in-Sum.spot.determinant c.args.bytes.now c.args.at c.is_det_ok-first.result c.is_det_ok-first.ensures) (ap (λ n. c.args.at + n) c.start.ensures) c.in_ok-payload-in-Sum.ensures
+    (state_rest c.in-Sum.sum_layout.determinant c.args.bytes.now c.args.at c.is_det_ok-first.result c.is_det_ok-first.ensures) (ap (λ n. c.args.at + n) c.start.ensures) c.in_ok-payload-in-Sum.ensures
 
 pub read_all-returns-in_ok-read_all-in-Some : goal.read_all-returns-in_ok-read_all-in-Some
 read_all-returns-in_ok-read_all-in-Some t c =

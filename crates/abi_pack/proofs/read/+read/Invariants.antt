@@ -1,7 +1,7 @@
 use Rattle.std.proofs.Common.{◌≡◌, ◌+◌, ◌-◌, ◌≤◌, length, slice_index}
-use Rattle.abi_pack.specs.Image.{from}
+use Rattle.abi_pack.specs.ByteMap.{seen_from}
 use Rattle.abi_layout.specs.Shape.{size_in, repeated}
-use Rattle.abi_pack.specs.Told.{told_in}
+use Rattle.abi_pack.specs.ValueShown.{values_shown}
 use Rattle.abi_pack.specs.View.{shape, shapes, joined}
 use Rattle.abi_pack.proofs.Nodes.{nodes, nodes_in}
 use Rattle.abi_pack.proofs.read.+read.Given as goal
@@ -18,4 +18,4 @@ decreases-read_each l = nodes_in (repeated l.len (shape l.item.now))
 abbrev pub invariant-read_each-loop-i : goal.invariant-read_each-loop-i
 invariant-read_each-loop-i l =
     (l.start + size_in (repeated (l.len - l.i) (shape l.item)) ≤ length l.bytes)
-    × (joined l.values (told_in (repeated (l.len - l.i) (shape l.item)) (from l.start (slice_index l.bytes))) ≡ joined l.fn.values (told_in (repeated l.len (shape l.item)) (from l.at (slice_index l.bytes))))
+    × (joined l.values (values_shown (repeated (l.len - l.i) (shape l.item)) (seen_from l.start (slice_index l.bytes))) ≡ joined l.fn.values (values_shown (repeated l.len (shape l.item)) (seen_from l.at (slice_index l.bytes))))

@@ -1,6 +1,6 @@
 use Rattle.std.proofs.Common.{◌+◌, ◌-◌, ◌<◌, ◌∙◌, slice_index, arith}
 use Rattle.abi_pack.specs.Scalars.{number_in, full}
-use Rattle.abi_pack.specs.Image.{AreBytes, from}
+use Rattle.abi_pack.specs.ByteMap.{AreBytes, seen_from}
 use Rattle.abi_pack.proofs.Stored.{number_bound}
 use Rattle.abi_pack.proofs.Primitives.{number_cut}
 use Rattle.abi_pack.proofs.scalars.number_at.Goals as goal
@@ -12,7 +12,7 @@ returns-clause-same c =
 
 pub returns-clause-small : goal.returns-clause-small
 returns-clause-small c =
-    let bytes : AreBytes (from c.args.at (slice_index c.args.bytes.now)) = λ i. omega (arith, c.type_inv.bytes (c.args.at + i)) in
-    let bound : number_in c.args.integer.now (from c.args.at (slice_index c.args.bytes.now)) < full c.args.integer.now.width =
-    number_bound c.args.integer.now (from c.args.at (slice_index c.args.bytes.now)) bytes in
+    let bytes : AreBytes (seen_from c.args.at (slice_index c.args.bytes.now)) = λ i. omega (arith, c.type_inv.bytes (c.args.at + i)) in
+    let bound : number_in c.args.integer.now (seen_from c.args.at (slice_index c.args.bytes.now)) < full c.args.integer.now.width =
+    number_bound c.args.integer.now (seen_from c.args.at (slice_index c.args.bytes.now)) bytes in
     rw (returns-clause-same c) bound

@@ -32,17 +32,17 @@ write-write_at-requires t c =
     let variant = c.in-Some-as_variant.variant in
     let side : shape c.side-part.result.now ≡ sides (shape c.in-Sum.ok.value) (shape c.in-Sum.err.value) variant.first =
     rw (← c.deref-in-Some-as_variant.ensures, ← c.deref-in-Some-as_variant-2.ensures) c.side-part.ensures in
-    let of : IsVariantOf c.args.part.now c.side-part.result.now c.in-Sum.spot variant.first 0 (length c.args.out.now) =
-    variant_of c.args.part.now c.side-part.result.now c.in-Sum.names c.in-Sum.ok c.in-Sum.err c.in-Sum.spot variant.first 0 (length c.args.out.now) c.in-Sum.is side c.requires.sound
+    let of : IsVariantOf c.args.part.now c.side-part.result.now c.in-Sum.sum_layout variant.first 0 (length c.args.out.now) =
+    variant_of c.args.part.now c.side-part.result.now c.in-Sum.names c.in-Sum.ok c.in-Sum.err c.in-Sum.sum_layout variant.first 0 (length c.args.out.now) c.in-Sum.is side c.requires.sound
     (omega (arith, c.requires.room)) in
     let fit : fits (shape c.side-part.result.now) (plain variant.payload.now) ≡ true =
-    payload_fits c.args.part.now c.side-part.result.now c.in-Sum.names variant.names c.in-Sum.ok c.in-Sum.err c.in-Sum.spot (plain c.args.value.now) (plain variant.payload.now) variant.first
+    payload_fits c.args.part.now c.side-part.result.now c.in-Sum.names variant.names c.in-Sum.ok c.in-Sum.err c.in-Sum.sum_layout (plain c.args.value.now) (plain variant.payload.now) variant.first
     c.in-Sum.is side c.in-Some-as_variant.ensures c.requires.fits in
     (omega (arith, c.decreases, of.fewer), (of.sound, (omega (arith, c.requires.small, c.requires.room), (fit, omega (arith, of.within, c.start.ensures)))))
 
 pub write-name_variant-requires : goal.write-name_variant-requires
 write-name_variant-requires t c =
-    sum_covered c.args.part.now c.in-Sum.names c.in-Sum.ok c.in-Sum.err c.in-Sum.spot _ c.in-Sum.is c.requires.sound (omega (arith, c.write_at.auto.out, c.requires.room))
+    sum_covered c.args.part.now c.in-Sum.names c.in-Sum.ok c.in-Sum.err c.in-Sum.sum_layout _ c.in-Sum.is c.requires.sound (omega (arith, c.write_at.auto.out, c.requires.room))
 
 pub write_each-returns-then-is_empty : goal.write_each-returns-then-is_empty
 write_each-returns-then-is_empty t c =

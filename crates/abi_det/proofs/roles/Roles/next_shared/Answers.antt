@@ -9,8 +9,8 @@ loop-next-preserved c =
       | else-beside-next-via-then-beside-next+else-both-ne0 w ↦ w.if-both-ne0.false
       | else-beside-next-via-else-beside-next w ↦ absurd (w.if-beside-next.false same)
     ] in
-    let first = rw (c.large_spot-large.ensures.layout, c.large_spot-large.ensures.shift, c.large_spot-large.ensures.size) at c.in-Some.ensures in
-    let second = rw (c.small_spot-small.ensures.layout, c.small_spot-small.ensures.shift, c.small_spot-small.ensures.size) at c.in_ok-beside.ensures in
+    let first = rw (c.placed_large-large.ensures.layout, c.placed_large-large.ensures.shift, c.placed_large-large.ensures.size) at c.in-Some.ensures in
+    let second = rw (c.placed_small-small.ensures.layout, c.placed_small-small.ensures.shift, c.placed_small-small.ensures.size) at c.in_ok-beside.ensures in
     record {
       reached = omega (arith, c.loop-next.invariant.reached, first.next.0, c.max-at.ensures);
       none = rw c.max-at.ensures

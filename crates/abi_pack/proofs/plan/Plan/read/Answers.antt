@@ -1,5 +1,5 @@
 use Rattle.std.proofs.Common.{◌∙◌, sym, slice_index, arith}
-use Rattle.abi_pack.specs.Image.{AreBytes}
+use Rattle.abi_pack.specs.ByteMap.{AreBytes}
 use Rattle.abi_pack.specs.View.{plain}
 use Rattle.abi_pack.proofs.Planning.{plan_other_length, plan_read, plan_shown, plan_none}
 use Rattle.abi_pack.proofs.plan.Plan.read.Goals as goal

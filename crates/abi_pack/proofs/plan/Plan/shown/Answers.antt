@@ -1,5 +1,5 @@
 use Rattle.std.proofs.Common.{◌∙◌, sym, slice_index, arith}
-use Rattle.abi_pack.specs.Image.{AreBytes}
+use Rattle.abi_pack.specs.ByteMap.{AreBytes}
 use Rattle.abi_pack.proofs.Planning.{plan_other_length, plan_shown, plan_where}
 use Rattle.abi_pack.proofs.plan.Plan.shown.Goals as goal
 

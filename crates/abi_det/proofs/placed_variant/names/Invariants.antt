@@ -1,7 +1,7 @@
 use Rattle.std.proofs.Common.{◌≡◌, eqb, drop}
 use Rattle.std.specs.List.{list_any}
 use Rattle.abi_bits.specs.Pairs.{moved_pairs}
-use Rattle.abi_det.proofs.spot.names.Given as goal
+use Rattle.abi_det.proofs.placed_variant.names.Given as goal
 
 abbrev pub invariant-loop-offset : goal.invariant-loop-offset
 invariant-loop-offset l =

@@ -1,5 +1,5 @@
 use Rattle.abi_layout.proofs.Sounding.{part_sound}
-use Rattle.abi_layout.proofs.laws.faultless_is_sound.Goals as goal
+use Rattle.abi_layout.proofs.laws.faultless_is_well_formed.Goals as goal
 
 pub returns : goal.returns
 returns c = part_sound

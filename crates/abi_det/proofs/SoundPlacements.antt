@@ -1,4 +1,4 @@
--- Every placement gives both variants what it owes them.
+-- Every placement is sound.
 use Rattle.std.proofs.Common.{◌≡◌, ℕ, zero, suc, ◌+◌, ◌-◌, ◌*◌, ◌/◌, ◌%◌, ◌^◌, ◌<◌, ◌≤◌, min, Bool, true, false, not, List, [], ◌∷◌, Option, Some, None, map, length, get_or, cond, eqb, ltb, leb, bit_xor, refl, sym, ap, ◌∙◌, subst, inl, inr, arith}
 use Rattle.std.specs.List.{list_any}
 use Rattle.std.specs.Int.{bit_at}
@@ -12,11 +12,11 @@ use Rattle.abi_bits.specs.Forbidden.{offered}
 use Rattle.abi_det.specs.Frame.{Frame}
 use Rattle.abi_det.specs.Roles.{union_byte, lies_free, spare_byte, is_place, union_size, larger, smaller, ok_is_larger, sum_align}
 use Rattle.abi_det.specs.State.{is_tested}
-use Rattle.abi_det.specs.Written.{without, beside_tag, means_ok, placed, tagged, niched, written_placement}
+use Rattle.abi_det.specs.Written.{without, beside_tag, means_ok, placement_of, tagged, niched, written_placement}
 use Rattle.abi_det.specs.Offers.{Rules, Niche, first_of, leading_pattern, first_offer}
 use Rattle.abi_det.specs.Niches.{IsLeading, IsNiche, IsFirstBelow}
-use Rattle.abi_det.specs.Owed.{IsSound, is_free_at, IsTest, IsSide, IsOwed}
-use Rattle.abi_det.specs.Laws.{OwedLaw}
+use Rattle.abi_det.specs.SoundPlacement.{IsWellFormed, is_free_at, IsTest, IsSide, IsSoundPlacement}
+use Rattle.abi_det.specs.Laws.{SoundPlacementLaw}
 use Rattle.abi_det.specs.declared.rules.Rules.TheVariants as version
 use Rattle.abi_det.specs.declared.placements.Placement.{Placement}
 use Rattle.abi_det.specs.declared.placements.Kind.{Kind}
@@ -109,12 +109,12 @@ without_bit bits o m b at k q set is = elim (cases_eq at o) [
 ]
 
 -- the variant that offers the pattern never has it, and the pattern is absent where that variant stands
-pattern_owner : (f : Frame) (sound : IsSound f) (shift n : ℕ) (there : n < length (offered f.forbids)) (exported : List Pair) (size : ℕ) → shift + f.size ≤ size
+pattern_owner : (f : Frame) (sound : IsWellFormed f) (shift n : ℕ) (there : n < length (offered f.forbids)) (exported : List Pair) (size : ℕ) → shift + f.size ≤ size
     → ((at k : ℕ) → k < 8 → bit_at (mask_at exported at) k ≡ 1 → is_free_at f shift at k ≡ true)
     → IsSide (test.ValueIsErr (moved f sound shift n there)) exported size f shift false
 pattern_owner f sound shift n there exported size inside exports = record {
   inside = inside;
-  carried = λ is at k lt tested. absurd (cc);
+  imposed = λ is at k lt tested. absurd (cc);
   forbids = λ is image holds. pattern_forbidden f sound shift n there image holds;
   exports = exports;
 }
@@ -126,7 +126,7 @@ pattern_host : (g : Frame) (shift : ℕ) (ps : List Pair) (exported : List Pair)
     → IsSide (test.ValueIsErr ps) exported size g shift true
 pattern_host g shift ps exported size inside free exports = record {
   inside = inside;
-  carried = λ is at k lt tested. free at k lt tested;
+  imposed = λ is at k lt tested. free at k lt tested;
   forbids = λ is image holds. absurd (cc);
   exports = exports;
 }
@@ -136,7 +136,7 @@ one_bit_side : (g : Frame) (shift o b : ℕ) (exported : List Pair) (size : ℕ)
     → (sign : Bool) → IsSide (test.BitIsErr o (2 ^ b)) exported size g shift sign
 one_bit_side g shift o b exported size inside free exports sign = record {
   inside = inside;
-  carried = λ is at k lt tested. the_bit at k (eqb at o) refl tested;
+  imposed = λ is at k lt tested. the_bit at k (eqb at o) refl tested;
   forbids = λ is image holds. absurd (cc);
   exports = exports;
 }
@@ -153,7 +153,7 @@ get_or-moved shift [] n = refl
 get_or-moved shift (ps ∷ pss) zero = refl
 get_or-moved shift (ps ∷ pss) (suc n) = get_or-moved shift pss n
 
-leading_offered : (rules : Rules) (large : Frame) → IsSound large → (ps : List Pair) → leading_pattern rules large ≡ Some ps
+leading_offered : (rules : Rules) (large : Frame) → IsWellFormed large → (ps : List Pair) → leading_pattern rules large ≡ Some ps
     → (0 < length (offered large.forbids)) × (ps ≡ get_or (offered large.forbids) 0 [])
 leading_offered rules large sound ps is = first_there (offered large.forbids) (leads rules is)
   where
@@ -180,15 +180,15 @@ means_larger kind.Tag = false
 abbrev pub left_over : Frame → Frame → ℕ → ℕ → Test → List Pair
 left_over large small size shift t = entries_below (without t (spare_byte large small shift size)) size
 
--- what is owed by a niche whose presence means the larger variant, or the smaller
-abbrev pub Owes : Frame → Frame → ℕ → ℕ → Test → Bool → Type 0
-Owes large small size shift t sign =
+-- a niche is sound for either variant: one whose presence means the larger variant, or the smaller
+abbrev pub IsSoundNiche : Frame → Frame → ℕ → ℕ → Test → Bool → Type 0
+IsSoundNiche large small size shift t sign =
     IsSide t (left_over large small size shift t) size large 0 sign
     × IsSide t (left_over large small size shift t) size small shift (not sign)
     × IsTest t size
     × ((at k : ℕ) → k < 8 → bit_at (mask_at (left_over large small size shift t) at) k ≡ 1 → is_tested t at k ≡ false)
 
-module _ (large small : Frame) (size shift : ℕ) (sl : IsSound large) (ss : IsSound small) (inside_l : large.size ≤ size) (inside_s : shift + small.size ≤ size) (fits : size ≤ 1048576) where
+module _ (large small : Frame) (size shift : ℕ) (sl : IsWellFormed large) (ss : IsWellFormed small) (inside_l : large.size ≤ size) (inside_s : shift + small.size ≤ size) (fits : size ≤ 1048576) where
   both_free : (bits : ℕ → ℕ) → ((at k : ℕ) → bit_at (bits at) k ≡ 1 → bit_at (spare_byte large small shift size at) k ≡ 1)
       → (at k : ℕ) → bit_at (mask_at (entries_below bits size) at) k ≡ 1 → (is_free_at large 0 at k ≡ true) × (is_free_at small shift at k ≡ true)
   both_free bits less at k is = free_of_spare large small shift size at k (less at k (exported_bit bits size at k is).1)
@@ -196,9 +196,9 @@ module _ (large small : Frame) (size shift : ℕ) (sl : IsSound large) (ss : IsS
   inside_zero : 0 + large.size ≤ size
   inside_zero = omega (arith, inside_l)
 
-  smaller_owes : (n : ℕ) (there : n < length (offered small.forbids)) → lies_free (union_byte large 0 size) (moved small ss shift n there) ≡ true
-      → Owes large small size shift (test.ValueIsErr (moved small ss shift n there)) true
-  smaller_owes n there lies =
+  smaller_sound : (n : ℕ) (there : n < length (offered small.forbids)) → lies_free (union_byte large 0 size) (moved small ss shift n there) ≡ true
+      → IsSoundNiche large small size shift (test.ValueIsErr (moved small ss shift n there)) true
+  smaller_sound n there lies =
       let ps : List Pair = moved small ss shift n there in
       let bits : ℕ → ℕ = spare_byte large small shift size in
       let free = both_free bits (λ at k is. is) in (
@@ -209,21 +209,21 @@ module _ (large small : Frame) (size shift : ℕ) (sl : IsSound large) (ss : IsS
         λ at k lt is. not_both (list_any (λ p. eqb p.0 at) ps) (is_free_at small shift at k) (free at k is).1 (pattern_not_free small ss shift n there at k),
       )
 
-  larger_owes : (n : ℕ) (there : n < length (offered large.forbids))
+  larger_sound : (n : ℕ) (there : n < length (offered large.forbids))
       → ((at k : ℕ) → k < 8 → list_any (λ p. eqb p.0 at) (moved large sl 0 n there) ≡ true → is_free_at small shift at k ≡ true)
-      → Owes large small size shift (test.ValueIsErr (moved large sl 0 n there)) false
-  larger_owes n there carried =
+      → IsSoundNiche large small size shift (test.ValueIsErr (moved large sl 0 n there)) false
+  larger_sound n there imposed =
       let ps : List Pair = moved large sl 0 n there in
       let bits : ℕ → ℕ = spare_byte large small shift size in
       let free = both_free bits (λ at k is. is) in (
         pattern_owner large sl 0 n there (entries_below bits size) size inside_zero (λ at k lt is. (free at k is).0),
-        pattern_host small shift ps (entries_below bits size) size inside_s carried (λ at k lt is. (free at k is).1),
+        pattern_host small shift ps (entries_below bits size) size inside_s imposed (λ at k lt is. (free at k is).1),
         pattern_in large sl 0 n there size inside_zero fits,
         λ at k lt is. not_both (list_any (λ p. eqb p.0 at) ps) (is_free_at large 0 at k) (free at k is).0 (pattern_not_free large sl 0 n there at k),
       )
 
-  bit_owes : (o b : ℕ) → o < size → b < 8 → bit_at (spare_byte large small shift size o) b ≡ 1 → Owes large small size shift (test.BitIsErr o (2 ^ b)) false
-  bit_owes o b low lt set =
+  bit_sound : (o b : ℕ) → o < size → b < 8 → bit_at (spare_byte large small shift size o) b ≡ 1 → IsSoundNiche large small size shift (test.BitIsErr o (2 ^ b)) false
+  bit_sound o b low lt set =
       let bits : ℕ → ℕ = spare_byte large small shift size in
       let left : ℕ → ℕ = without (test.BitIsErr o (2 ^ b)) bits in
       let here = free_of_spare large small shift size o b set in
@@ -235,38 +235,38 @@ module _ (large small : Frame) (size shift : ℕ) (sl : IsSound large) (ss : IsS
         λ at k lt is. (kept at k (exported_bit left size at k is).1).1,
       )
 
-niche_owes : (rules : Rules) (large small : Frame) (size k : ℕ) → IsSound large → IsSound small → large.size ≤ size → k * small.align + small.size ≤ size → size ≤ 1048576
-    → (a : Kind) (n : ℕ) (t : Test) → IsNiche rules large small size k a n t → Owes large small size (k * small.align) t (means_larger a)
-niche_owes rules large small size k sl ss inside_l inside_s fits kind.SmallerPattern n t is =
+niche_sound : (rules : Rules) (large small : Frame) (size k : ℕ) → IsWellFormed large → IsWellFormed small → large.size ≤ size → k * small.align + small.size ≤ size → size ≤ 1048576
+    → (a : Kind) (n : ℕ) (t : Test) → IsNiche rules large small size k a n t → IsSoundNiche large small size (k * small.align) t (means_larger a)
+niche_sound rules large small size k sl ss inside_l inside_s fits kind.SmallerPattern n t is =
     let shift : ℕ = k * small.align in
     let pss : List (List Pair) = offered small.forbids in
     let e = get_or-moved shift pss n in
     let there : n < length pss = omega (arith, is.1.0, length-map pss (moved_pairs shift)) in
-    subst (λ (x : Test). Owes large small size shift x true) (sym (is.1.2 ∙ ap test.ValueIsErr e))
-    (smaller_owes large small size shift sl ss inside_l inside_s fits n there (subst (λ (x : List Pair). lies_free (union_byte large 0 size) x ≡ true) e is.1.1))
-niche_owes rules large small size k sl ss inside_l inside_s fits kind.LargerPattern n t (inl is) =
+    subst (λ (x : Test). IsSoundNiche large small size shift x true) (sym (is.1.2 ∙ ap test.ValueIsErr e))
+    (smaller_sound large small size shift sl ss inside_l inside_s fits n there (subst (λ (x : List Pair). lies_free (union_byte large 0 size) x ≡ true) e is.1.1))
+niche_sound rules large small size k sl ss inside_l inside_s fits kind.LargerPattern n t (inl is) =
     leading (leading_pattern rules large) refl is.1
   where
-    leading : (o : Option (List Pair)) → leading_pattern rules large ≡ o → IsLeading o n t → Owes large small size (k * small.align) t false
+    leading : (o : Option (List Pair)) → leading_pattern rules large ≡ o → IsLeading o n t → IsSoundNiche large small size (k * small.align) t false
     leading None e lead = absurd lead
     leading (Some ps) e lead =
         let first = leading_offered rules large sl ps e in
         let q : moved large sl 0 0 first.0 ≡ ps = moved_by_none (get_or (offered large.forbids) 0 []) ∙ sym first.1 in
-        subst (λ (x : Test). Owes large small size (k * small.align) x false) (ap test.ValueIsErr q ∙ sym lead.1)
-        (larger_owes large small size (k * small.align) sl ss inside_l inside_s fits 0 first.0 (λ at i lt named. free_of_empty small (k * small.align) at i is.0))
-niche_owes rules large small size k sl ss inside_l inside_s fits kind.LargerPattern n t (inr is) =
+        subst (λ (x : Test). IsSoundNiche large small size (k * small.align) x false) (ap test.ValueIsErr q ∙ sym lead.1)
+        (larger_sound large small size (k * small.align) sl ss inside_l inside_s fits 0 first.0 (λ at i lt named. free_of_empty small (k * small.align) at i is.0))
+niche_sound rules large small size k sl ss inside_l inside_s fits kind.LargerPattern n t (inr is) =
     let shift : ℕ = k * small.align in
     let ps : List Pair = get_or (offered large.forbids) n [] in
     let q : moved large sl 0 n is.1.0 ≡ ps = moved_by_none ps in
-    subst (λ (x : Test). Owes large small size shift x false) (ap test.ValueIsErr q ∙ sym is.1.2)
-    (larger_owes large small size shift sl ss inside_l inside_s fits n is.1.0
+    subst (λ (x : Test). IsSoundNiche large small size shift x false) (ap test.ValueIsErr q ∙ sym is.1.2)
+    (larger_sound large small size shift sl ss inside_l inside_s fits n is.1.0
     (λ at i lt named. free_of_whole small shift size at i lt
     (free_named (union_byte small shift size) at ps is.1.1 (subst (λ (x : List Pair). list_any (λ p. eqb p.0 at) x ≡ true) q named))))
-niche_owes rules large small size k sl ss inside_l inside_s fits kind.SharedBit n t is =
+niche_sound rules large small size k sl ss inside_l inside_s fits kind.SharedBit n t is =
     let shift : ℕ = k * small.align in
-    subst (λ (x : Test). Owes large small size shift x false) (sym is.2)
-    (bit_owes large small size shift sl ss inside_l inside_s fits (n / 8) (n % 8) (omega (arith, is.0)) (omega arith) is.1)
-niche_owes rules large small size k sl ss inside_l inside_s fits kind.Tag n t is = absurd is
+    subst (λ (x : Test). IsSoundNiche large small size shift x false) (sym is.2)
+    (bit_sound large small size shift sl ss inside_l inside_s fits (n / 8) (n % 8) (omega (arith, is.0)) (omega arith) is.1)
+niche_sound rules large small size k sl ss inside_l inside_s fits kind.Tag n t is = absurd is
 
 -- one of two, by a test
 pub pick : (P : Frame → Type 0) (b : Bool) (ok err : Frame) → P ok → P err → P (cond b ok err)
@@ -299,7 +299,7 @@ by_role false ok err kind.Tag shift P l s = (rw (zero-add shift) s, l)
 tag_side : (side : Frame) (u a : ℕ) (sign : Bool) → side.size ≤ u → 0 < a → IsSide test.BitDeterminant (entries_below beside_tag a) (u + a) side (a + 0) sign
 tag_side side u a sign fits pos = record {
   inside = omega (arith, fits);
-  carried = λ is at k lt tested. tagged_bit at k (eqb at 0) refl tested;
+  imposed = λ is at k lt tested. tagged_bit at k (eqb at 0) refl tested;
   forbids = λ is image holds. absurd (cc);
   exports = λ at k lt is. in_front at k (exported_bit beside_tag a at k is).0;
 }
@@ -318,8 +318,8 @@ tag_kept at k is = by_byte (eqb at 0) is
     by_byte false h = refl
     by_byte true h = ne_eqb k 0 (λ q. let low : bit_at 254 0 ≡ 1 = rw q at h in cc)
 
-tag_owes : (ok err : Frame) → IsSound ok → IsSound err → IsOwed ok err (tagged ok err)
-tag_owes ok err so se =
+tag_sound : (ok err : Frame) → IsWellFormed ok → IsWellFormed err → IsSoundPlacement ok err (tagged ok err)
+tag_sound ok err so se =
     let u : ℕ = union_size ok err in
     let a : ℕ = sum_align ok err in
     let r = union_rounded ok err so.lawful se.lawful in
@@ -331,15 +331,15 @@ tag_owes ok err so se =
       kept = λ at k lt is. tag_kept at k (exported_bit beside_tag a at k is).1;
     }
 
-niche_owes_both : (rules : Rules) (ok err : Frame) → IsSound ok → IsSound err → (k n : ℕ) (niche : Niche) → is_place (smaller ok err) (union_size ok err) k ≡ true
-    → IsNiche rules (larger ok err) (smaller ok err) (union_size ok err) k niche.kind n niche.test → IsOwed ok err (niched ok err k niche)
-niche_owes_both rules ok err so se k n niche place is =
+niche_sound_both : (rules : Rules) (ok err : Frame) → IsWellFormed ok → IsWellFormed err → (k n : ℕ) (niche : Niche) → is_place (smaller ok err) (union_size ok err) k ≡ true
+    → IsNiche rules (larger ok err) (smaller ok err) (union_size ok err) k niche.kind n niche.test → IsSoundPlacement ok err (niched ok err k niche)
+niche_sound_both rules ok err so se k n niche place is =
     let u : ℕ = union_size ok err in
     let b : Bool = ok_is_larger ok err in
     let shift : ℕ = k * (smaller ok err).align in
     let t : Test = niche.test in
     let r = union_rounded ok err so.lawful se.lawful in
-    let o = niche_owes rules (larger ok err) (smaller ok err) u k (pick IsSound b ok err so se) (pick IsSound b err ok se so)
+    let o = niche_sound rules (larger ok err) (smaller ok err) u k (pick IsWellFormed b ok err so se) (pick IsWellFormed b err ok se so)
     (pick (λ f. f.size ≤ u) b ok err r.0 r.1) (place_inside (smaller ok err) u k place) (union_small ok err so.lawful se.lawful) niche.kind n t is in
     let ex : List Pair = left_over (larger ok err) (smaller ok err) u shift t in
     let sides = by_role b ok err niche.kind shift (λ f s sign. IsSide t ex u f s sign) o.0 o.1 in
@@ -351,22 +351,22 @@ niche_owes_both rules ok err so se k n niche place is =
       kept = o.3;
     }
 
-pub owed : OwedLaw
+pub placements_sound : SoundPlacementLaw
 unfolding written_placement
-owed rules ok err so se =
+placements_sound rules ok err so se =
     by_search (first_offer rules (larger ok err) (smaller ok err) (union_size ok err) 8)
     (search_first rules (larger ok err) (smaller ok err) (union_size ok err) 8 (pick (λ f. IsMask f.free) (ok_is_larger ok err) ok err so.mask se.mask))
   where
-    by_search : (o : Option (ℕ × Niche)) → IsFirstBelow rules (larger ok err) (smaller ok err) (union_size ok err) 8 o → IsOwed ok err (placed ok err o)
-    by_search None none = tag_owes ok err so se
-    by_search (Some found) f = niche_owes_both rules ok err so se found.0 f.2.0 found.1 f.1 f.2.1
+    by_search : (o : Option (ℕ × Niche)) → IsFirstBelow rules (larger ok err) (smaller ok err) (union_size ok err) 8 o → IsSoundPlacement ok err (placement_of ok err o)
+    by_search None none = tag_sound ok err so se
+    by_search (Some found) f = niche_sound_both rules ok err so se found.0 f.2.0 found.1 f.1 f.2.1
 
--- the variants are sound where both roles are
-both_sound : (b : Bool) (ok err : Frame) → IsSound (cond b ok err) → IsSound (cond b err ok) → IsSound ok × IsSound err
-both_sound true ok err l s = (l, s)
-both_sound false ok err l s = (s, l)
+-- the variants are well-formed where both roles are
+both_well_formed : (b : Bool) (ok err : Frame) → IsWellFormed (cond b ok err) → IsWellFormed (cond b err ok) → IsWellFormed ok × IsWellFormed err
+both_well_formed true ok err l s = (l, s)
+both_well_formed false ok err l s = (s, l)
 
-pub placement_owed : (rules : Rules) (ok err : Frame) (p : Placement) → IsSound (larger ok err) → IsSound (smaller ok err) → p ≡ written_placement rules ok err → IsOwed ok err p
-placement_owed rules ok err p l s is =
-    let both = both_sound (ok_is_larger ok err) ok err l s in
-    subst (λ x. IsOwed ok err x) (sym is) (owed rules ok err both.0 both.1)
+pub placement_sound : (rules : Rules) (ok err : Frame) (p : Placement) → IsWellFormed (larger ok err) → IsWellFormed (smaller ok err) → p ≡ written_placement rules ok err → IsSoundPlacement ok err p
+placement_sound rules ok err p l s is =
+    let both = both_well_formed (ok_is_larger ok err) ok err l s in
+    subst (λ x. IsSoundPlacement ok err x) (sym is) (placements_sound rules ok err both.0 both.1)

@@ -1,4 +1,4 @@
--- What the placement of a sum owes to its variants: each can stand at its place, whatever the bytes beside it hold, and the test tells which one does.
+-- When a placement is sound: each variant can stand at its place, whatever the bytes beside it hold, and the test tells which one does.
 use Rattle.std.specs.Prelude.{◌≡◌, ℕ, ◌+◌, ◌-◌, ◌^◌, ◌<◌, ◌≤◌, List, Bool, true, false, not, nat_lt, ◌==◌, Some, IsTrue, if◌then◌else◌}
 use Rattle.std.specs.Int.{bit_at}
 use Rattle.std.specs.List.{list_all, list_any}
@@ -9,22 +9,18 @@ use Rattle.abi_bits.specs.Forbidden.{is_match, offered}
 use Rattle.abi_det.specs.Frame.{Frame, IsLawful}
 use Rattle.abi_det.specs.Offers.{first_of}
 use Rattle.abi_det.specs.Roles.{union_size}
-use Rattle.abi_det.specs.State.{test_holds, is_tested}
+use Rattle.abi_det.specs.State.{test_holds, is_tested, seen_from}
 use Rattle.abi_det.specs.declared.placements.Placement.{Placement}
 use Rattle.abi_det.specs.declared.determinant.Test.{Test}
 use Rattle.abi_det.specs.declared.determinant.Test.TheVariants as test
 
 -- what the frame of every layout keeps: the rule of lawful layouts, entries in order, patterns in order and of bytes, and a head that is the first offered pattern
-pub record IsSound (f : Frame) : Type 0 where
+pub record IsWellFormed (f : Frame) : Type 0 where
   pub lawful : IsLawful f
   pub mask : IsMask f.free
   pub patterns : IsTrue (list_all is_pattern (offered f.forbids))
   pub bytes : IsTrue (list_all are_bytes (offered f.forbids))
   pub leads : (ps : List Pair) → f.head ≡ Some ps → first_of (offered f.forbids) ≡ Some ps
-
--- the image as it is seen from `shift` on
-abbrev pub from : ℕ → (ℕ → ℕ) → ℕ → ℕ
-from shift image at = image (shift + at)
 
 -- bit k of the byte at `at` is free for a variant at `shift`: its own free bits, and all bits beside it
 abbrev pub is_free_at : Frame → ℕ → ℕ → ℕ → Bool
@@ -32,10 +28,10 @@ is_free_at side shift at k =
     if nat_lt at shift then true else (if nat_lt at (shift + side.size) then bit_at (mask_at side.free (at - shift)) k == 1 else true)
 
 -- the test is written for a variant where its truth is to be `sign`; a pattern that must be absent is not
-abbrev pub is_carried : Test → Bool → Bool
-is_carried test.BitDeterminant sign = true
-is_carried (test.ValueIsErr ps) sign = sign
-is_carried (test.BitIsErr offset mask) sign = true
+abbrev pub is_imposed : Test → Bool → Bool
+is_imposed test.BitDeterminant sign = true
+is_imposed (test.ValueIsErr ps) sign = sign
+is_imposed (test.BitIsErr offset mask) sign = true
 
 -- the test lies in a sum of `size` bytes: a pattern, or one bit
 abbrev pub IsTest : Test → ℕ → Type 0
@@ -43,18 +39,18 @@ IsTest test.BitDeterminant size = 0 < size
 IsTest (test.ValueIsErr ps) size = IsPattern ps × IsTrue (are_below size ps) × IsTrue (are_bytes ps)
 IsTest (test.BitIsErr offset mask) size = (offset < size) × ((b : ℕ) × (b < 8) × (mask ≡ 2 ^ b))
 
--- what is owed to one variant, at `shift` from the sum's first byte, for which the test's truth is to be `sign`
+-- a variant at `shift` from the sum's first byte is told by the test, whose truth is to be `sign` for it
 pub record IsSide (tested : Test) (exported : List Pair) (size : ℕ) (side : Frame) (shift : ℕ) (sign : Bool) : Type 0 where
   pub inside : shift + side.size ≤ size
   -- where the test is written, it takes only bits that are free for the variant
-  pub carried : is_carried tested sign ≡ true → (at k : ℕ) → k < 8 → is_tested tested at k ≡ true → is_free_at side shift at k ≡ true
+  pub imposed : is_imposed tested sign ≡ true → (at k : ℕ) → k < 8 → is_tested tested at k ≡ true → is_free_at side shift at k ≡ true
   -- where it is not, the variant never has what it tests
-  pub forbids : is_carried tested sign ≡ false → (image : ℕ → ℕ) → test_holds tested image ≡ true → list_any (is_match (from shift image)) side.forbids ≡ true
+  pub forbids : is_imposed tested sign ≡ false → (image : ℕ → ℕ) → test_holds tested image ≡ true → list_any (is_match (seen_from shift image)) side.forbids ≡ true
   -- the exported bits are free for the variant
   pub exports : (at k : ℕ) → k < 8 → bit_at (mask_at exported at) k ≡ 1 → is_free_at side shift at k ≡ true
 
--- what a placement owes to both variants of a sum
-pub record IsOwed (ok err : Frame) (p : Placement) : Type 0 where
+-- the placement tells both variants of a sum
+pub record IsSoundPlacement (ok err : Frame) (p : Placement) : Type 0 where
   pub ok_side : IsSide p.determinant.test p.exported (union_size ok err + p.front) ok (p.front + p.ok_shift) p.determinant.«not»
   pub err_side : IsSide p.determinant.test p.exported (union_size ok err + p.front) err (p.front + p.err_shift) (not p.determinant.«not»)
   pub tested : IsTest p.determinant.test (union_size ok err + p.front)

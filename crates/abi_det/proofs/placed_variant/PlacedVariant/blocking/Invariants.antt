@@ -2,7 +2,7 @@ use Rattle.std.proofs.Common.{◌≡◌, ◌++◌, map, drop}
 use Rattle.abi_bits.specs.Pairs.{moved_pairs}
 use Rattle.abi_det.specs.Roles.{union_byte}
 use Rattle.abi_det.specs.Written.{first_blocking}
-use Rattle.abi_det.proofs.spot.Spot.blocking.Given as goal
+use Rattle.abi_det.proofs.placed_variant.PlacedVariant.blocking.Given as goal
 
 abbrev pub invariant-loop-pattern : goal.invariant-loop-pattern
 invariant-loop-pattern l =

@@ -1,24 +1,21 @@
 -- Bytes as a function that tells the byte at each offset. A bit is a pair: a byte's offset, and the bit's number in it.
-use Rattle.std.specs.Prelude.{ℕ, zero, suc, ◌+◌, ◌<◌, List, [], ◌∷◌, ◌++◌, Bool, ◌==◌, slice_index}
+use Rattle.std.specs.Prelude.{ℕ, zero, suc, ◌<◌, List, [], ◌∷◌, ◌++◌, Bool, ◌==◌, slice_index}
 use Rattle.std.specs.Int.{bit_at}
 use Rattle.abi_bits.specs.Pairs.{Pair}
 use Rattle.abi_bits.specs.Mask.{mask_at}
+pub use Rattle.abi_det.specs.State.{seen_from}
 
-abbrev pub Image : Type 0
-Image = ℕ → ℕ
+abbrev pub ByteMap : Type 0
+ByteMap = ℕ → ℕ
 
--- the same bytes, counted from offset o
-abbrev pub from : ℕ → Image → Image
-from o f = λ i. f (o + i)
-
-abbrev pub bytes_of : List ℕ → Image
+abbrev pub bytes_of : List ℕ → ByteMap
 bytes_of xs = λ i. slice_index xs i
 
-abbrev pub AreBytes : Image → Type 0
+abbrev pub AreBytes : ByteMap → Type 0
 AreBytes f = (i : ℕ) → f i < 256
 
 -- the first n bytes
-abbrev pub firsts : ℕ → Image → List ℕ
+abbrev pub firsts : ℕ → ByteMap → List ℕ
 firsts zero f = []
 firsts (suc n) f = firsts n f ++ f n ∷ []
 

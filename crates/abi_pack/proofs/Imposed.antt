@@ -10,11 +10,11 @@ use Rattle.std.proofs.lemmas.Nat.Bits.{bit_at-lt, bit_at-pow_same, bit_at-pow_ot
 use Rattle.std.proofs.lemmas.List.{get_or-set_same, get_or-set_other, length-set}
 use Rattle.std.proofs.Math.ListN.{get_or-eq_default}
 use Rattle.abi_bits.specs.Pairs.{Pair, is_matched, is_empty, are_below, are_rising}
-use Rattle.abi_det.specs.State.{test_holds, is_tested, carry, put_bits, put_pairs}
+use Rattle.abi_det.specs.State.{test_holds, is_tested, imposed, put_bits, put_pairs}
 use Rattle.abi_det.specs.declared.determinant.Test.{Test}
 use Rattle.abi_det.specs.declared.determinant.Test.TheVariants as test
-use Rattle.abi_pack.specs.Image.{bytes_of}
-use Rattle.abi_det.specs.Owed.{is_carried, IsTest}
+use Rattle.abi_pack.specs.ByteMap.{bytes_of}
+use Rattle.abi_det.specs.SoundPlacement.{is_imposed, IsTest}
 use Rattle.abi_pack.proofs.Choice.{and_first, and_second, and_both, neither_first, neither_second, neither}
 use Rattle.abi_pack.proofs.Numbers.{AllBytes}
 use Rattle.abi_pack.proofs.Truths.{OneBit, one_bit_test}
@@ -136,45 +136,45 @@ pairs_matched (p ∷ ps) least xs rising below =
 
 -- ---- every test
 
-bit_carry_small : (t : Test) (n : ℕ) (sign : Bool) (xs : List ℕ) → OneBit t n → AllBytes xs → AllBytes (carry t sign xs)
-bit_carry_small t n sign xs is small i = rw (is.writes sign xs) (bit_small is.at is.bit sign xs is.low small i)
+bit_imposed_small : (t : Test) (n : ℕ) (sign : Bool) (xs : List ℕ) → OneBit t n → AllBytes xs → AllBytes (imposed t sign xs)
+bit_imposed_small t n sign xs is small i = rw (is.writes sign xs) (bit_small is.at is.bit sign xs is.low small i)
 
-pub carry_length : (t : Test) (sign : Bool) (xs : List ℕ) → length (carry t sign xs) ≡ length xs
-carry_length test.BitDeterminant sign xs = bit_length 0 1 sign xs
-carry_length (test.BitIsErr o m) sign xs = bit_length o m sign xs
-carry_length (test.ValueIsErr ps) true xs = pairs_length ps xs
-carry_length (test.ValueIsErr ps) false xs = refl
+pub imposed_length : (t : Test) (sign : Bool) (xs : List ℕ) → length (imposed t sign xs) ≡ length xs
+imposed_length test.BitDeterminant sign xs = bit_length 0 1 sign xs
+imposed_length (test.BitIsErr o m) sign xs = bit_length o m sign xs
+imposed_length (test.ValueIsErr ps) true xs = pairs_length ps xs
+imposed_length (test.ValueIsErr ps) false xs = refl
 
-pub carry_small : (t : Test) (n : ℕ) (sign : Bool) (xs : List ℕ) → IsTest t n → AllBytes xs → AllBytes (carry t sign xs)
-carry_small test.BitDeterminant n sign xs is small i = bit_carry_small test.BitDeterminant n sign xs (one_bit_test test.BitDeterminant n tt is) small i
-carry_small (test.BitIsErr o m) n sign xs is small i = bit_carry_small (test.BitIsErr o m) n sign xs (one_bit_test (test.BitIsErr o m) n tt is) small i
-carry_small (test.ValueIsErr ps) n true xs is small i =
+pub imposed_small : (t : Test) (n : ℕ) (sign : Bool) (xs : List ℕ) → IsTest t n → AllBytes xs → AllBytes (imposed t sign xs)
+imposed_small test.BitDeterminant n sign xs is small i = bit_imposed_small test.BitDeterminant n sign xs (one_bit_test test.BitDeterminant n tt is) small i
+imposed_small (test.BitIsErr o m) n sign xs is small i = bit_imposed_small (test.BitIsErr o m) n sign xs (one_bit_test (test.BitIsErr o m) n tt is) small i
+imposed_small (test.ValueIsErr ps) n true xs is small i =
     pairs_small ps xs is.2 small i
-carry_small (test.ValueIsErr ps) n false xs is small i = small i
+imposed_small (test.ValueIsErr ps) n false xs is small i = small i
 
-bit_carry_kept : (t : Test) (n : ℕ) (sign : Bool) (xs : List ℕ) (i k : ℕ) → OneBit t n → n ≤ length xs → k < 8 → (is_carried t sign && is_tested t i k) ≡ false
-    → bit_at (get_or (carry t sign xs) i 0) k ≡ bit_at (get_or xs i 0) k
-bit_carry_kept t n sign xs i k is long small apart =
+bit_imposed_kept : (t : Test) (n : ℕ) (sign : Bool) (xs : List ℕ) (i k : ℕ) → OneBit t n → n ≤ length xs → k < 8 → (is_imposed t sign && is_tested t i k) ≡ false
+    → bit_at (get_or (imposed t sign xs) i 0) k ≡ bit_at (get_or xs i 0) k
+bit_imposed_kept t n sign xs i k is long small apart =
     let below : is.at < n = is.below in
     rw (is.writes sign xs)
     (bit_kept is.at is.bit sign xs i k is.low small (omega arith)
     (λ same. (let own : is_tested t i k ≡ true = rw (same.0, same.1) is.own in
-    let both : (is_carried t sign && is_tested t i k) ≡ true = and_both (is_carried t sign) _ (is.carried sign) own in absurd (cc)))
+    let both : (is_imposed t sign && is_tested t i k) ≡ true = and_both (is_imposed t sign) _ (is.always sign) own in absurd (cc)))
     (eqb_tells i is.at))
 
-pub carry_kept : (t : Test) (n : ℕ) (sign : Bool) (xs : List ℕ) (i k : ℕ) → IsTest t n → n ≤ length xs → k < 8 → (is_carried t sign && is_tested t i k) ≡ false
-    → bit_at (get_or (carry t sign xs) i 0) k ≡ bit_at (get_or xs i 0) k
-carry_kept test.BitDeterminant n sign xs i k is long small apart =
-    bit_carry_kept test.BitDeterminant n sign xs i k (one_bit_test test.BitDeterminant n tt is) long small apart
-carry_kept (test.BitIsErr o m) n sign xs i k is long small apart =
-    bit_carry_kept (test.BitIsErr o m) n sign xs i k (one_bit_test (test.BitIsErr o m) n tt is) long small apart
-carry_kept (test.ValueIsErr ps) n true xs i k is long small apart = ap (λ x. bit_at x k) (pairs_kept ps xs i apart)
-carry_kept (test.ValueIsErr ps) n false xs i k is long small apart = refl
+pub imposed_kept : (t : Test) (n : ℕ) (sign : Bool) (xs : List ℕ) (i k : ℕ) → IsTest t n → n ≤ length xs → k < 8 → (is_imposed t sign && is_tested t i k) ≡ false
+    → bit_at (get_or (imposed t sign xs) i 0) k ≡ bit_at (get_or xs i 0) k
+imposed_kept test.BitDeterminant n sign xs i k is long small apart =
+    bit_imposed_kept test.BitDeterminant n sign xs i k (one_bit_test test.BitDeterminant n tt is) long small apart
+imposed_kept (test.BitIsErr o m) n sign xs i k is long small apart =
+    bit_imposed_kept (test.BitIsErr o m) n sign xs i k (one_bit_test (test.BitIsErr o m) n tt is) long small apart
+imposed_kept (test.ValueIsErr ps) n true xs i k is long small apart = ap (λ x. bit_at x k) (pairs_kept ps xs i apart)
+imposed_kept (test.ValueIsErr ps) n false xs i k is long small apart = refl
 
-bit_carry_truth : (t : Test) (n : ℕ) (sign : Bool) (xs : List ℕ) → OneBit t n → n ≤ length xs → test_holds t (bytes_of (carry t sign xs)) ≡ sign
-bit_carry_truth t n sign xs is long =
+bit_imposed_truth : (t : Test) (n : ℕ) (sign : Bool) (xs : List ℕ) → OneBit t n → n ≤ length xs → test_holds t (bytes_of (imposed t sign xs)) ≡ sign
+bit_imposed_truth t n sign xs is long =
     let below : is.at < n = is.below in
-    is.truth (bytes_of (carry t sign xs)) ∙ rw (is.writes sign xs) (bit_written is.at is.bit sign xs is.low (omega arith))
+    is.truth (bytes_of (imposed t sign xs)) ∙ rw (is.writes sign xs) (bit_written is.at is.bit sign xs is.low (omega arith))
 
 below_longer : (n m : ℕ) (ps : List Pair) → n ≤ m → are_below n ps ≡ true → are_below m ps ≡ true
 below_longer n m [] le h = refl
@@ -183,12 +183,12 @@ below_longer n m (p ∷ ps) le h =
     let still : nat_lt p.0 m ≡ true = grind (arith, nat_tests) in
     and_both (nat_lt p.0 m) _ still (below_longer n m ps le (and_second (nat_lt p.0 n) _ h))
 
-pub carry_truth : (t : Test) (n : ℕ) (sign : Bool) (xs : List ℕ) → IsTest t n → n ≤ length xs → is_carried t sign ≡ true
-    → test_holds t (bytes_of (carry t sign xs)) ≡ sign
-carry_truth test.BitDeterminant n sign xs is long carried = bit_carry_truth test.BitDeterminant n sign xs (one_bit_test test.BitDeterminant n tt is) long
-carry_truth (test.BitIsErr o m) n sign xs is long carried = bit_carry_truth (test.BitIsErr o m) n sign xs (one_bit_test (test.BitIsErr o m) n tt is) long
-carry_truth (test.ValueIsErr ps) n true xs is long carried =
+pub imposed_truth : (t : Test) (n : ℕ) (sign : Bool) (xs : List ℕ) → IsTest t n → n ≤ length xs → is_imposed t sign ≡ true
+    → test_holds t (bytes_of (imposed t sign xs)) ≡ sign
+imposed_truth test.BitDeterminant n sign xs is long imposed = bit_imposed_truth test.BitDeterminant n sign xs (one_bit_test test.BitDeterminant n tt is) long
+imposed_truth (test.BitIsErr o m) n sign xs is long imposed = bit_imposed_truth (test.BitIsErr o m) n sign xs (one_bit_test (test.BitIsErr o m) n tt is) long
+imposed_truth (test.ValueIsErr ps) n true xs is long imposed =
     let rising : are_rising 0 ps ≡ true = and_second (not (is_empty ps)) _ is.0 in
     let below : are_below n ps ≡ true = is.1 in
     pairs_matched ps 0 xs rising (below_longer n (length xs) ps long below)
-carry_truth (test.ValueIsErr ps) n false xs is long carried = absurd (cc)
+imposed_truth (test.ValueIsErr ps) n false xs is long imposed = absurd (cc)

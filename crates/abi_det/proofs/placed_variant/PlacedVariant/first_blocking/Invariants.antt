@@ -2,7 +2,7 @@ use Rattle.std.proofs.Common.{◌≡◌, IsTrue, drop}
 use Rattle.abi_bits.specs.Pairs.{are_below, moved_pairs}
 use Rattle.abi_det.specs.Roles.{union_byte}
 use Rattle.abi_det.specs.Written.{first_blocking}
-use Rattle.abi_det.proofs.spot.Spot.first_blocking.Given as goal
+use Rattle.abi_det.proofs.placed_variant.PlacedVariant.first_blocking.Given as goal
 
 abbrev pub invariant-loop-offset : goal.invariant-loop-offset
 invariant-loop-offset l =

@@ -1,7 +1,7 @@
 use Rattle.std.proofs.Common.{sym, ◌∙◌}
 use Rattle.abi_bits.specs.Pairs.{moved_pairs}
 use Rattle.abi_det.proofs.Moving.{free_below}
-use Rattle.abi_det.proofs.spot.Spot.first_free.Goals as goal
+use Rattle.abi_det.proofs.placed_variant.PlacedVariant.first_free.Goals as goal
 
 pub moved-requires : goal.moved-requires
 moved-requires c =

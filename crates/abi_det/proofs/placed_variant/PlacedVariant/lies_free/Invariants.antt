@@ -1,7 +1,7 @@
 use Rattle.std.proofs.Common.{◌≡◌, IsTrue, drop}
 use Rattle.abi_bits.specs.Pairs.{are_below, moved_pairs}
 use Rattle.abi_det.specs.Roles.{union_byte, lies_free}
-use Rattle.abi_det.proofs.spot.Spot.lies_free.Given as goal
+use Rattle.abi_det.proofs.placed_variant.PlacedVariant.lies_free.Given as goal
 
 abbrev pub invariant-loop-offset : goal.invariant-loop-offset
 invariant-loop-offset l =

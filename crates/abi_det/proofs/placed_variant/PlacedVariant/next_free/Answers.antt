@@ -1,6 +1,6 @@
 use Rattle.std.proofs.Common.{◌-◌, arith}
 use Rattle.abi_det.proofs.Next.{left_in, next_own}
-use Rattle.abi_det.proofs.spot.Spot.next_free.Goals as goal
+use Rattle.abi_det.proofs.placed_variant.PlacedVariant.next_free.Goals as goal
 
 pub overflow_add-offset : goal.overflow_add-offset
 overflow_add-offset c =

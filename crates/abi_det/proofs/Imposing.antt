@@ -9,7 +9,7 @@ use Rattle.std.proofs.lemmas.Nat.{pow_below, pow_pos}
 use Rattle.std.proofs.lemmas.Nat.Bits.{bit_at_or, bit_at_and, bit_at_not, bit_at-pow_same, bit_at-pow_other, bit_at-lt, and_pow}
 use Rattle.abi_bits.specs.Pairs.{Pair, are_rising, are_below, is_empty, is_matched}
 use Rattle.abi_det.specs.State.{put_pairs, put_bits}
-use Rattle.abi_det.specs.Writes.{KeptLaw, CarriedLaw}
+use Rattle.abi_det.specs.Writes.{KeptLaw, ImposedLaw}
 use Rattle.abi_det.specs.declared.determinant.Test.TheVariants as test
 
 bits_set : (x m k : ℕ) → bit_at m k ≡ 0 → bit_at (bit_or x m) k ≡ bit_at x k
@@ -100,12 +100,12 @@ mask_state : (offset b : ℕ) (sign : Bool) (xs : List ℕ) → b < 8 → offset
 mask_state offset b true xs lt inside = rw (get_or-set_same xs offset (bit_or (get_or xs offset 0) (2 ^ b)) 0 inside) (mask_set (get_or xs offset 0) b)
 mask_state offset b false xs lt inside = rw (get_or-set_same xs offset (bit_and (get_or xs offset 0) (bit_not w8 (2 ^ b))) 0 inside) (mask_cleared (get_or xs offset 0) b lt)
 
-pub carried : CarriedLaw
-carried test.BitDeterminant true xs is written =
+pub imposed : ImposedLaw
+imposed test.BitDeterminant true xs is written =
     rw (get_or-set_same xs 0 (bit_or (get_or xs 0 0) 1) 0 is) (eq-eqb (bit_at (bit_or (get_or xs 0 0) 1) 0) 1 (bit_set (get_or xs 0 0) 0))
-carried test.BitDeterminant false xs is written =
+imposed test.BitDeterminant false xs is written =
     rw (get_or-set_same xs 0 (bit_and (get_or xs 0 0) (bit_not w8 1)) 0 is)
     (ne_eqb (bit_at (bit_and (get_or xs 0 0) (bit_not w8 1)) 0) 1 (λ q. absurd (omega (arith, q, bit_cleared (get_or xs 0 0) 0 (omega arith)))))
-carried (test.ValueIsErr ps) true xs is written = put_matched 0 ps xs (and_parts (not (is_empty ps)) (are_rising 0 ps) is.0).1 is.1
-carried (test.ValueIsErr ps) false xs is written = absurd (false≢true written)
-carried (test.BitIsErr offset mask) sign xs is written = rw is.1.2 (mask_state offset is.1.0 sign xs is.1.1 is.0)
+imposed (test.ValueIsErr ps) true xs is written = put_matched 0 ps xs (and_parts (not (is_empty ps)) (are_rising 0 ps) is.0).1 is.1
+imposed (test.ValueIsErr ps) false xs is written = absurd (false≢true written)
+imposed (test.BitIsErr offset mask) sign xs is written = rw is.1.2 (mask_state offset is.1.0 sign xs is.1.1 is.0)

@@ -1,6 +1,6 @@
 ghost use Rattle.std.specs.Prelude.{◌≡◌, ◌≤◌, ◌<◌, IsTrue, IfOk, map, option_map, ◌+◌, [], ◌∷◌, ◌==◌};
 ghost use Rattle.std.specs.List.{find, list_any};
-ghost use Rattle.abi_bits.specs.Pairs.{are_below, moved_pairs};
+ghost use Rattle.abi_bits.specs.Pairs.{are_below, max_size, moved_pairs};
 ghost use Rattle.abi_bits.specs.Mask.{mask_at};
 ghost use Rattle.abi_det.specs.Roles.{union_byte, lies_free, AreFirstBytes};
 ghost use Rattle.abi_bits.specs.Forbidden.{items, offered};
@@ -8,24 +8,24 @@ ghost use Rattle.abi_det.specs.Written.{first_blocking, is_blocking, are_blockin
 ghost use Rattle.abi_det.specs.Search.{after_blocking};
 
 use crate::layout::Layout;
-use abi_bits::{ForbiddenValues, Offsets, Pattern};
+use abi_bits::{ForbiddenValues, MAX_SIZE, Offsets, Pattern};
 use abi_num::{Items, OutOfMemory};
 use std::alloc::Global;
 
 /// A variant at its place in a union of `size` bytes.
 #[derive(Drop)]
-pub(crate) struct Spot<'a> {
+pub(crate) struct PlacedVariant<'a> {
     pub(crate) layout: &'a Layout,
     /// Where the variant starts, in bytes.
     pub(crate) shift: u64,
     pub(crate) size: u64,
     /// The bits that the variant leaves free in its first bytes, one byte each: those that are at hand.
     pub(crate) bytes: &'a [u8],
-    ghost within: { size ≤ 1048576 },
+    ghost within: { size ≤ max_size },
     ghost at_hand: { AreFirstBytes layout.now.free bytes.now },
 }
 
-impl Spot<'_> {
+impl PlacedVariant<'_> {
     /// The bits of a byte of the union that the variant leaves free.
     pub(crate) fn byte_at(&self, at: u64) -> u8
         ensures { result ≡ union_byte self.now.layout.now self.now.shift self.now.size at }
@@ -55,8 +55,8 @@ impl Spot<'_> {
 
     /// Whether the pattern, moved by that many bytes, lies in bytes that the variant leaves wholly free.
     pub(crate) fn lies_free(&self, pairs: &[(u64, u8)], by: u64) -> bool
-        requires below { IsTrue (are_below 1048576 pairs.now) }
-        requires near { by ≤ 1048576 }
+        requires below { IsTrue (are_below MAX_SIZE pairs.now) }
+        requires near { by ≤ MAX_SIZE }
         ensures { result ≡ lies_free (union_byte self.now.layout.now self.now.shift self.now.size) (moved_pairs by pairs.now) }
     {
         for (offset, _) in pairs {
@@ -76,7 +76,7 @@ impl Spot<'_> {
         patterns: &[Pattern],
         by: u64,
     ) -> Result<Option<Pattern>, OutOfMemory>
-        requires { by ≤ 1048576 }
+        requires { by ≤ MAX_SIZE }
         ensures { IfOk result (λ found. found ≡ find (lies_free (union_byte self.now.layout.now self.now.shift self.now.size)) (map (moved_pairs by) patterns.now)) }
     {
         for pattern in patterns {
@@ -91,8 +91,8 @@ impl Spot<'_> {
     /// The first byte of the pattern, moved by that many bytes, that the variant does not leave wholly free;
     /// 0 where there is none.
     fn first_blocking(&self, pairs: &[(u64, u8)], by: u64) -> u64
-        requires below { IsTrue (are_below 1048576 pairs.now) }
-        requires near { by ≤ 1048576 }
+        requires below { IsTrue (are_below MAX_SIZE pairs.now) }
+        requires near { by ≤ MAX_SIZE }
         ensures { result ≡ first_blocking (union_byte self.now.layout.now self.now.shift self.now.size) (moved_pairs by pairs.now) }
     {
         for (offset, _) in pairs {
@@ -112,7 +112,7 @@ impl Spot<'_> {
         patterns: &[Pattern],
         by: u64,
     ) -> Result<Offsets, OutOfMemory>
-        requires { by ≤ 1048576 }
+        requires { by ≤ MAX_SIZE }
         ensures { IfOk result (λ offsets. offsets ≡ map (first_blocking (union_byte self.now.layout.now self.now.shift self.now.size)) (map (moved_pairs by) patterns.now)) }
     {
         let mut offsets = Items::new(alloc);
@@ -123,7 +123,7 @@ impl Spot<'_> {
     }
 }
 
-impl Spot<'_> {
+impl PlacedVariant<'_> {
     /// Whether the byte of the union at offset `at` is one of the pattern's, moved by that many bytes, and the
     /// variant does not leave it wholly free.
     fn is_blocking(&self, pairs: &[(u64, u8)], by: u64, at: u64) -> bool

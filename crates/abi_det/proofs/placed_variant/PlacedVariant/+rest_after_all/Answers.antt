@@ -1,7 +1,7 @@
 use Rattle.std.proofs.Common.{option_map}
 use Rattle.abi_det.specs.Roles.{union_byte}
 use Rattle.abi_det.proofs.Blocking.{rest_of_both, none_of_both}
-use Rattle.abi_det.proofs.spot.Spot.+rest_after_all.Goals as goal
+use Rattle.abi_det.proofs.placed_variant.PlacedVariant.+rest_after_all.Goals as goal
 
 pub returns-in-Some : goal.returns-in-Some
 returns-in-Some t c =
