@@ -3,16 +3,17 @@ use Rattle.std.specs.Prelude.{codes, option_and_then, option_map}
 use Rattle.std.specs.Ordering.{match_ordering}
 use Rattle.std.specs.Cmp.Lexicographic.{slice_cmp}
 use Rattle.std.specs.Ordering.{nat_cmp}
-use Rattle.std.proofs.Common.{◌≡◌, ℕ, zero, suc, ◌<◌, ◌≤◌, max, List, [], ◌∷◌, Option, Some, None, Ordering, Less, Equal, Greater, refl, sym, ap, arith}
+use Rattle.std.proofs.Common.{◌≡◌, ℕ, zero, suc, ◌<◌, ◌≤◌, max, List, [], ◌∷◌, Bool, Option, Some, None, Ordering, Less, Equal, Greater, refl, sym, ap, arith}
 use Rattle.std.proofs.Math.Nat.{le-max_left, le-max_right}
 use Rattle.serde_json.specs.Data.{Data, null, boolean, number, string, array, object, Items, no_items, item, Members, no_members, member, depth, items_depth, members_depth}
 use Rattle.serde_json.specs.Find.{get, get_member, as_array, as_object}
 use Rattle.abi_layout.specs.Trees.{Tree}
-use Rattle.abi_pack.specs.Plain.{Plain, list}
+use Rattle.abi_layout.specs.declared.part.Sort.{Sort}
+use Rattle.abi_pack.specs.Plain.{Plain, list, variant}
 use Rattle.abi_pack.specs.View.{plains_of}
-use Rattle.abi_document.specs.Forms.{nested, by_key, only_one, sole_member, only_two, pair_of, all_of}
+use Rattle.abi_document.specs.Forms.{nested, by_name, by_key, only_one, sole_member, only_two, pair_of, all_of}
 use Rattle.abi_document.specs.Descriptions as desc
-use Rattle.abi_document.specs.Descriptions.{field_of, struct_of, pair_at, desc_step, desc_at}
+use Rattle.abi_document.specs.Descriptions.{Rule, alone, one_sided, two_sided, array_rule, struct_rule, field_of, struct_of, array_of, pair_at, read_by, desc_step, desc_at}
 use Rattle.abi_document.specs.Values as value
 use Rattle.abi_document.specs.Values.{value_step, value_at}
 
@@ -110,13 +111,13 @@ abbrev AreAlike : {A : Type 0} → List (List ℕ × (Data → Option A)) → Li
 AreAlike [] [] d = Unit {0}
 AreAlike [] (q ∷ qs) d = ⊥
 AreAlike (p ∷ ps) [] d = ⊥
-AreAlike (p ∷ ps) (q ∷ qs) d = (p.0 ≡ q.0) × (p.1 d ≡ q.1 d) × AreAlike ps qs d
+AreAlike (p ∷ ps) (q ∷ qs) d = ((p.0 ≡ q.0) × (p.1 d ≡ q.1 d)) × AreAlike ps qs d
 
 keys_same : {A : Type 0} (ps qs : List (List ℕ × (Data → Option A))) (key : List ℕ) (d : Data) → AreAlike ps qs d → by_key ps key d ≡ by_key qs key d
 keys_same [] [] key d h = refl
 keys_same [] (q ∷ qs) key d h = absurd h
 keys_same (p ∷ ps) [] key d h = absurd h
-keys_same (p ∷ ps) (q ∷ qs) key d h = rw (h.0, h.1, keys_same ps qs key d h.2) refl
+keys_same (p ∷ ps) (q ∷ qs) key d h = rw (h.0.0, h.0.1, keys_same ps qs key d h.1) refl
 
 -- ---- descriptions
 
@@ -146,16 +147,23 @@ pair_same f g d h =
     rw (first, second) refl
     )
 
+array_same : (f g : Data → Option Tree) (d : Data) → Agree f g (depth d) → array_of f d ≡ array_of g d
+array_same f g d h =
+    bind_same (pair_of d) _ _ (λ p is. let held : f p.0 ≡ g p.0 = h p.0 (pair_below d p is).0 in rw held refl)
+
+inside : (f g : Data → Option Tree) (d : Data) (n : ℕ) → Agree f g n → depth d < n → Agree f g (depth d)
+inside f g d n h lt e less = h e (omega (arith, less, lt))
+
+rule_same : (f g : Data → Option Tree) (r : Rule) (d : Data) (n : ℕ) → Agree f g n → depth d < n → read_by f r d ≡ read_by g r d
+rule_same f g (alone read) d n h lt = refl
+rule_same f g (one_sided make) d n h lt = ap (option_map make) (h d lt)
+rule_same f g (two_sided make) d n h lt = ap (option_map (λ p. make p.0 p.1)) (pair_same f g d (inside f g d n h lt))
+rule_same f g array_rule d n h lt = array_same f g d (inside f g d n h lt)
+rule_same f g struct_rule d n h lt = struct_same f g d (inside f g d n h lt)
+
 form_same : (f g : Data → Option Tree) (key : List ℕ) (d : Data) (n : ℕ) → Agree f g n → depth d < n → desc.form_of f key d ≡ desc.form_of g key d
 unfolding desc.form_of
-form_same f g key d n h lt =
-    let inside : Agree f g (depth d) = λ e less. h e (omega (arith, less, lt)) in
-    let two : (make : Tree → Tree → Tree) → desc.two_sided f make d ≡ desc.two_sided g make d = λ make. ap (option_map (λ p. make p.0 p.1)) (pair_same f g d inside) in
-    keys_same (desc.forms f) (desc.forms g) key d (
-      refl,
-      ap (option_map _) (h d lt),
-      (refl, two _, (refl, struct_same f g d inside, tt)),
-    )
+form_same f g key d n h lt = bind_same (by_name desc.forms key) _ _ (λ rule is. rule_same f g rule d n h lt)
 
 step_same : (f g : Data → Option Tree) (d : Data) → Agree f g (depth d) → desc_step f d ≡ desc_step g d
 unfolding desc_step
@@ -175,10 +183,10 @@ description_law d n m a b = nested_same desc_step step_same d n m a b
 variant_same : (f g : Data → Option Plain) (key : List ℕ) (d : Data) → f d ≡ g d → value.form_of f key d ≡ value.form_of g key d
 unfolding value.form_of
 variant_same f g key d h =
+    let same : (names : Sort) (first : Bool) → value.variant_of f names first d ≡ value.variant_of g names first d = λ names first. ap (option_map (variant names first)) h in
     keys_same (value.forms f) (value.forms g) key d (
-      refl,
-      ap (option_map _) h,
-      (refl, ap (option_map _) h, (refl, ap (option_map _) h, tt)),
+      (refl, same _ _),
+      ((refl, same _ _), ((refl, same _ _), ((refl, refl), tt))),
     )
 
 value_same : (f g : Data → Option Plain) (d : Data) → Agree f g (depth d) → value_step f d ≡ value_step g d

@@ -1,9 +1,10 @@
 -- Forms of JSON that documents are made of.
-use Rattle.std.specs.Prelude.{◌≡◌, ℕ, zero, suc, List, [], ◌∷◌, length, Bool, true, false, ◌&&◌, nat_le, nat_lt, Option, Some, None, option_map, option_and_then, if◌then◌else◌, ◌^◌, String, string_bytes}
+use Rattle.std.specs.Prelude.{◌≡◌, ℕ, zero, suc, List, [], ◌∷◌, length, Bool, true, false, ◌&&◌, nat_le, nat_lt, Option, Some, None, option_map, option_and_then, Result, Ok, Err, if◌then◌else◌, ◌^◌, String, string_bytes}
 use Rattle.std.specs.List.{list_all, list_any}
 use Rattle.std.specs.Option.{option_map_or}
 use Rattle.std.specs.Str.{bytes_eq}
 use Rattle.std.specs.declared.alloc.Global.{Global}
+use Rattle.hex.specs.Hex.{decode_of}
 use Rattle.serde_json.specs.Data.{Data, Items, no_items, item, Members, no_members, member}
 use Rattle.serde_json.specs.Find.{get, as_array, as_number, as_object, as_str, as_u64}
 
@@ -19,6 +20,11 @@ Tells view found answer = option_map view answer ≡ found
 unfoldable pub nested : {A : Type 0} → ((Data → Option A) → Data → Option A) → ℕ → Data → Option A
 nested step zero d = None
 nested step (suc levels) d = step (nested step levels) d
+
+-- what went well
+abbrev pub result_ok : {A E : Type 0} → Result A E → Option A
+result_ok (Ok a) = Some a
+result_ok (Err e) = None
 
 -- ---- tables by name
 
@@ -73,6 +79,17 @@ only_two (item a (item b (item c ds))) = None
 abbrev pub pair_of : Data → Option (Data × Data)
 pair_of d = as_array d >>= only_two
 
+abbrev pub only_three : Items → Option (Data × Data × Data)
+only_three no_items = None
+only_three (item a no_items) = None
+only_three (item a (item b no_items)) = None
+only_three (item a (item b (item c no_items))) = Some (a, b, c)
+only_three (item a (item b (item c (item d ds)))) = None
+
+-- the three of an array of three
+abbrev pub triple_of : Data → Option (Data × Data × Data)
+triple_of d = as_array d >>= only_three
+
 -- what each item is read as, in order, where each can be read
 abbrev pub all_of : {A : Type 0} → (Data → Option A) → Items → Option (List A)
 all_of read no_items = Some []
@@ -92,9 +109,19 @@ name_of d = do
   s ← as_str d
   if is_name s then Some s else None
 
+-- the bytes of a text of pairs of hexadecimal digits, in either case
+abbrev pub bytes_of : Data → Option (List ℕ)
+bytes_of d = as_str d >>= (λ text. result_ok (decode_of text))
+
 -- a JSON integer of 64 bits without sign
 abbrev pub long_of : Data → Option ℕ
 long_of d = as_number d >>= as_u64
+
+-- of 8 bits
+abbrev pub byte_of : Data → Option ℕ
+byte_of d = do
+  n ← long_of d
+  if nat_lt n 256 then Some n else None
 
 -- of 32 bits
 abbrev pub word_of : Data → Option ℕ

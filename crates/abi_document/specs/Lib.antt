@@ -1,6 +1,9 @@
 pub mod Forms
 pub mod Integers
+pub mod Primitives
+pub mod Leaves
 pub mod Descriptions
 pub mod Values
+pub mod Targets
 pub mod Documents
 pub mod Laws

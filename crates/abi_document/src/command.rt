@@ -3,4 +3,8 @@
 pub enum Command {
     /// The bytes of a value of a description.
     Pack,
+    /// The layout of a description.
+    Layout,
+    /// The value of a description that bytes show.
+    Read,
 }

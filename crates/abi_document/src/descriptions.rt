@@ -1,14 +1,17 @@
 //! Descriptions of types, from trees of JSON.
 
 ghost use Rattle.std.specs.Prelude.{◌≡◌, IfOk, map, option_map};
-ghost use Rattle.serde_json.specs.Find.{as_array};
 ghost use Rattle.serde_json.specs.View.{view, items_view};
-ghost use Rattle.abi_layout.specs.Trees.{tree};
-ghost use Rattle.abi_document.specs.Forms.{Tells, name_of, under};
-ghost use Rattle.abi_document.specs.Descriptions.{named, boxed, both_boxed, prim_named, version_of, align_of, field_of, fields_of, struct_of, pair_at, form_of, desc_step, desc_at};
+ghost use Rattle.abi_layout.specs.Trees.{tree, wrap, pointer};
+ghost use Rattle.abi_document.specs.Forms.{Tells};
+ghost use Rattle.abi_document.specs.Descriptions.{named, boxed, both_boxed, version_of, align_of, field_of, fields_of, struct_of, array_of, pair_at, pointers, one_sided_forms, by_rule, form_of, desc_step, desc_at};
 
-use crate::forms::{has_only, long_of, name_of, pair_of, sole_member, word_of};
-use abi_layout::{Desc, Field, FieldDescs, Prim};
+use crate::forms::{
+    has_only, items_under, long_of, name_of, name_under, pair_of, sole_member, word_of,
+};
+use crate::leaves::{leaf_of, no_niches_of};
+use crate::primitives::{non_x_of, prim_named};
+use abi_layout::{Desc, Field, FieldDescs, PointerKind, WrapKind};
 use abi_num::{OutOfMemory, Text};
 use serde_json::Value as Json;
 use std::alloc::Global;
@@ -53,17 +56,126 @@ fn form_of(
     ensures { IfOk result (Tells tree (form_of (desc_at levels) key.now (view content.now))) }
 {
     match key {
-        "option" => {
-            let some = boxed_at(alloc, levels, content)?;
-            Ok(some.map(|some| Desc::Option { some }))
+        "struct" => struct_of(alloc, levels, content),
+        "array" => array_of(alloc, levels, content),
+        "union" => {
+            let pair = pair_at(alloc, levels, content)?;
+            Ok(pair.map(|(ok, err)| Desc::Union { ok, err }))
         }
         "result" => {
             let pair = pair_at(alloc, levels, content)?;
             Ok(pair.map(|(ok, err)| Desc::Result { ok, err }))
         }
-        "struct" => struct_of(alloc, levels, content),
+        "core_result" => {
+            let pair = pair_at(alloc, levels, content)?;
+            Ok(pair.map(|(ok, err)| Desc::CoreResult { ok, err }))
+        }
+        "stable_if" => {
+            let pair = pair_at(alloc, levels, content)?;
+            Ok(pair.map(|(value, cond)| Desc::StableIf { value, cond }))
+        }
+        "non_x" => Ok(non_x_of(content).map(Desc::Prim)),
+        "no_niches" => Ok(no_niches_of(content)),
+        "leaf" => Ok(leaf_of(alloc, content)?.map(Desc::Leaf)),
+        _ => one_sided(alloc, levels, key, content),
+    }
+}
+
+/// A description of one other, from the one key of an object and what it holds.
+#[cycle(reading)]
+#[tactic(auto, unfolding(crate::specs::Descriptions::one_sided_forms))]
+fn one_sided(
+    alloc: Global,
+    levels: usize,
+    key: &str,
+    content: &Json,
+) -> Result<Option<Desc>, OutOfMemory>
+    ensures { IfOk result (Tells tree (by_rule (desc_at levels) one_sided_forms key.now (view content.now))) }
+{
+    match key {
+        "option" => {
+            let some = boxed_at(alloc, levels, content)?;
+            Ok(some.map(|some| Desc::Option { some }))
+        }
+        "core_option" => {
+            let some = boxed_at(alloc, levels, content)?;
+            Ok(some.map(|some| Desc::CoreOption { some }))
+        }
+        "manually_drop" => wrap_of(alloc, levels, WrapKind::ManuallyDrop, content),
+        "maybe_uninit" => wrap_of(alloc, levels, WrapKind::MaybeUninit, content),
+        "unsafe_cell" => wrap_of(alloc, levels, WrapKind::UnsafeCell, content),
+        "pin" => wrap_of(alloc, levels, WrapKind::Pin, content),
+        "not_pod" => wrap_of(alloc, levels, WrapKind::NotPod, content),
+        "or_infallible" => wrap_of(alloc, levels, WrapKind::OrInfallible, content),
+        _ => pointer(alloc, levels, key, content),
+    }
+}
+
+/// A pointer, from the one key of an object and what it holds.
+#[cycle(reading)]
+#[tactic(auto, unfolding(crate::specs::Descriptions::pointers))]
+fn pointer(
+    alloc: Global,
+    levels: usize,
+    key: &str,
+    content: &Json,
+) -> Result<Option<Desc>, OutOfMemory>
+    ensures { IfOk result (Tells tree (by_rule (desc_at levels) pointers key.now (view content.now))) }
+{
+    match key {
+        "const_ptr" => pointer_of(alloc, levels, PointerKind::ConstPtr, content),
+        "mut_ptr" => pointer_of(alloc, levels, PointerKind::MutPtr, content),
+        "atomic_ptr" => pointer_of(alloc, levels, PointerKind::AtomicPtr, content),
+        "non_null" => pointer_of(alloc, levels, PointerKind::NonNull, content),
+        "ref" => pointer_of(alloc, levels, PointerKind::Ref, content),
+        "ref_mut" => pointer_of(alloc, levels, PointerKind::RefMut, content),
         _ => Ok(None),
     }
+}
+
+/// A wrapper of that kind, from what it wraps.
+#[cycle(reading)]
+fn wrap_of(
+    alloc: Global,
+    levels: usize,
+    kind: WrapKind,
+    json: &Json,
+) -> Result<Option<Desc>, OutOfMemory>
+    ensures { IfOk result (Tells tree (option_map (wrap kind) (desc_at levels (view json.now)))) }
+{
+    let inner = boxed_at(alloc, levels, json)?;
+    Ok(inner.map(|inner| Desc::Wrap { kind, inner }))
+}
+
+/// A pointer of that kind, from what it points to.
+#[cycle(reading)]
+fn pointer_of(
+    alloc: Global,
+    levels: usize,
+    kind: PointerKind,
+    json: &Json,
+) -> Result<Option<Desc>, OutOfMemory>
+    ensures { IfOk result (Tells tree (option_map (pointer kind) (desc_at levels (view json.now)))) }
+{
+    let pointee = boxed_at(alloc, levels, json)?;
+    Ok(pointee.map(|pointee| Desc::Pointer { kind, pointee }))
+}
+
+/// An array, from a description and how many.
+#[cycle(reading)]
+fn array_of(alloc: Global, levels: usize, json: &Json) -> Result<Option<Desc>, OutOfMemory>
+    ensures { IfOk result (Tells tree (array_of (desc_at levels) (view json.now))) }
+{
+    let Some((item, len)) = pair_of(json) else {
+        return Ok(None);
+    };
+    let Some(item) = boxed_at(alloc, levels, item)? else {
+        return Ok(None);
+    };
+    let Some(len) = long_of(len) else {
+        return Ok(None);
+    };
+    Ok(Some(Desc::Array { item, len }))
 }
 
 /// A description in a box of its own.
@@ -96,33 +208,6 @@ fn pair_at(
         return Ok(None);
     };
     Ok(Some((first, second)))
-}
-
-/// A primitive by its name; `None` exactly where no primitive has it.
-#[tactic(auto, unfolding(crate::specs::Descriptions::prim_named))]
-fn prim_named(name: &str) -> Option<Prim>
-    ensures { result ≡ prim_named name.now }
-{
-    match name {
-        "()" => Some(Prim::Unit),
-        "bool" => Some(Prim::Bool),
-        "u8" => Some(Prim::U8),
-        "u16" => Some(Prim::U16),
-        "u32" => Some(Prim::U32),
-        "u64" => Some(Prim::U64),
-        "u128" => Some(Prim::U128),
-        "i8" => Some(Prim::I8),
-        "i16" => Some(Prim::I16),
-        "i32" => Some(Prim::I32),
-        "i64" => Some(Prim::I64),
-        "i128" => Some(Prim::I128),
-        "NonZeroU8" => Some(Prim::NonZeroU8),
-        "NonZeroU16" => Some(Prim::NonZeroU16),
-        "NonZeroU32" => Some(Prim::NonZeroU32),
-        "NonZeroU64" => Some(Prim::NonZeroU64),
-        "NonZeroU128" => Some(Prim::NonZeroU128),
-        _ => None,
-    }
 }
 
 /// A struct, from its declaration.
@@ -161,20 +246,6 @@ fn struct_of(alloc: Global, levels: usize, json: &Json) -> Result<Option<Desc>, 
         fields,
         align,
     }))
-}
-
-/// The name under a key of an object; `None` exactly where there is none.
-fn name_under<'j>(key: &str, json: &'j Json) -> Option<&'j str>
-    ensures { Tells (λ name. name.now) (under key.now name_of (view json.now)) result }
-{
-    name_of(json.get(key)?)
-}
-
-/// The items of the array under a key of an object; `None` exactly where there is none.
-fn items_under<'j>(key: &str, json: &'j Json) -> Option<&'j [Json]>
-    ensures { Tells (λ a. items_view a.now) (under key.now as_array (view json.now)) result }
-{
-    Some(json.get(key)?.as_array()?.as_slice())
 }
 
 /// The version of a declaration, which is 0 where none is said.

@@ -2,19 +2,20 @@ ghost use Rattle.std.specs.Prelude.{◌≡◌, IfOk, IfSome, codes, map};
 ghost use Rattle.serde_json.specs.View.{view};
 ghost use Rattle.abi_layout.specs.Trees.{tree};
 ghost use Rattle.abi_pack.specs.View.{plain};
-ghost use Rattle.abi_document.specs.Forms.{Tells, under};
-ghost use Rattle.abi_document.specs.Descriptions.{desc_at};
+ghost use Rattle.abi_document.specs.Forms.{Tells, under, bytes_of};
 ghost use Rattle.abi_document.specs.Values.{value_at};
-ghost use Rattle.abi_document.specs.Documents.{HasNoEdits, levels, target_of, keys_of, pack_work, work_in, task_of, job_of, plain_job};
+ghost use Rattle.abi_document.specs.Targets.{target_of};
+ghost use Rattle.abi_document.specs.Documents.{HasNoEdits, levels, keys_of, desc_in, pack_work, layout_work, read_work, work_in, task_of, job_of, plain_job};
 
 use crate::command::Command;
 use crate::descriptions::desc_at;
-use crate::forms::has_only;
+use crate::forms::{bytes_of, has_only};
 use crate::job::{Job, Work};
+use crate::targets::target_of;
 use crate::values::value_at;
 use abi_layout::Desc;
 use abi_num::{OutOfMemory, Target};
-use abi_pack::{Edits, Value};
+use abi_pack::{Bytes, Edits, Value};
 use serde_json::Value as Json;
 use std::alloc::Global;
 
@@ -45,6 +46,8 @@ fn keys_of(command: Command) -> &'static [&'static str]
 {
     match command {
         Command::Pack => &["target", "desc", "value"],
+        Command::Layout => &["target", "desc"],
+        Command::Read => &["target", "desc", "bytes"],
     }
 }
 
@@ -55,6 +58,8 @@ fn work_in(alloc: Global, command: Command, json: &Json) -> Result<Option<Work>,
 {
     match command {
         Command::Pack => pack_work(alloc, json),
+        Command::Layout => layout_work(alloc, json),
+        Command::Read => read_work(alloc, json),
     }
 }
 
@@ -73,6 +78,31 @@ fn pack_work(alloc: Global, json: &Json) -> Result<Option<Work>, OutOfMemory>
     Ok(Some(Work::Pack { desc, value, edits }))
 }
 
+/// What a document of `layout` asks for.
+fn layout_work(alloc: Global, json: &Json) -> Result<Option<Work>, OutOfMemory>
+    ensures told { IfOk result (Tells task_of (layout_work (view json.now))) }
+    ensures no_edits { IfOk result (λ work. IfSome work HasNoEdits) }
+{
+    let Some(desc) = desc_in(alloc, json)? else {
+        return Ok(None);
+    };
+    Ok(Some(Work::Layout { desc }))
+}
+
+/// What a document of `read` asks for.
+fn read_work(alloc: Global, json: &Json) -> Result<Option<Work>, OutOfMemory>
+    ensures told { IfOk result (Tells task_of (read_work (view json.now))) }
+    ensures no_edits { IfOk result (λ work. IfSome work HasNoEdits) }
+{
+    let Some(desc) = desc_in(alloc, json)? else {
+        return Ok(None);
+    };
+    let Some(bytes) = bytes_in(alloc, json)? else {
+        return Ok(None);
+    };
+    Ok(Some(Work::Read { desc, bytes }))
+}
+
 /// The target under the key `target`; `None` exactly where there is none.
 fn target_in(json: &Json) -> Option<Target>
     ensures { result ≡ under (codes "target") target_of (view json.now) }
@@ -80,19 +110,9 @@ fn target_in(json: &Json) -> Option<Target>
     target_of(json.get("target")?)
 }
 
-/// A target by its name; `None` exactly where the tree is none.
-fn target_of(json: &Json) -> Option<Target>
-    ensures { result ≡ target_of (view json.now) }
-{
-    match json.as_str()? {
-        "le64" => Target::named("le64"),
-        _ => None,
-    }
-}
-
 /// The description under the key `desc`; `None` exactly where there is none.
 fn desc_in(alloc: Global, json: &Json) -> Result<Option<Desc>, OutOfMemory>
-    ensures { IfOk result (Tells tree (under (codes "desc") (desc_at levels) (view json.now))) }
+    ensures { IfOk result (Tells tree (desc_in (view json.now))) }
 {
     match json.get("desc") {
         Some(desc) => desc_at(alloc, LEVELS, desc),
@@ -106,6 +126,16 @@ fn value_in(alloc: Global, json: &Json) -> Result<Option<Value>, OutOfMemory>
 {
     match json.get("value") {
         Some(value) => value_at(alloc, LEVELS, value),
+        None => Ok(None),
+    }
+}
+
+/// The bytes under the key `bytes`; `None` exactly where there are none.
+fn bytes_in(alloc: Global, json: &Json) -> Result<Option<Bytes>, OutOfMemory>
+    ensures { IfOk result (λ bytes. bytes ≡ under (codes "bytes") bytes_of (view json.now)) }
+{
+    match json.get("bytes") {
+        Some(bytes) => bytes_of(alloc, bytes),
         None => Ok(None),
     }
 }

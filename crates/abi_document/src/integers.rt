@@ -1,30 +1,54 @@
-//! Integers in texts.
+//! Integers, from numbers and texts of JSON: each is its distance from 0, and whether it lies below 0.
 
 ghost use Rattle.std.specs.Prelude.{◌≡◌, option_map};
 ghost use Rattle.std.specs.List.{list_all};
 ghost use Rattle.std.specs.Char.{is_ascii_digit};
-ghost use Rattle.abi_pack.specs.View.{plain};
-ghost use Rattle.abi_document.specs.Forms.{Tells};
-ghost use Rattle.abi_document.specs.Integers.{is_plain, magnitude_of, signed_by, signed_text, integer_text, integer_of};
+ghost use Rattle.serde_json.specs.View.{view, number_view};
+ghost use Rattle.abi_document.specs.Integers.{is_plain, magnitude_of, signed_by, signed_text, integer_text, integer_of, integer_number, integer_in};
 
-use abi_pack::Value;
+use serde_json::{Number, Value as Json};
+
+/// The integer that a number or a text is; `None` exactly where the tree is no integer.
+pub fn integer_in(json: &Json) -> Option<(u128, bool)>
+    ensures { result ≡ integer_in (view json.now) }
+{
+    match json {
+        Json::Number(number) => integer_number(number),
+        Json::String(text) => integer_text(text.as_str()),
+        _ => None,
+    }
+}
+
+/// An integer that JSON does not hold as a float; `None` exactly where it holds one.
+pub fn integer_number(number: &Number) -> Option<(u128, bool)>
+    ensures { result ≡ integer_number (number_view number.now) }
+{
+    Some(integer_of(number.as_i128()?))
+}
+
+/// The magnitude and the sign of an integer.
+fn integer_of(number: i128) -> (u128, bool)
+    ensures { result ≡ integer_of number }
+{
+    (number.unsigned_abs(), number < 0)
+}
 
 /// The integer that a text spells: `0`, or an optional `-` and digits of which the first is not 0, of a
 /// magnitude below 2^128. `None` exactly where it spells none.
 #[tactic(auto, unfolding(crate::specs::Integers::integer_text))]
-pub fn integer_text(text: &str) -> Option<Value>
-    ensures { Tells plain (integer_text text.now) result }
+pub fn integer_text(text: &str) -> Option<(u128, bool)>
+    ensures { result ≡ integer_text text.now }
 {
     if text == "0" {
-        Some(signed_by(false, 0))
+        Some((0, false))
     } else {
         signed_text(text)
     }
 }
 
 /// The integer of digits with a `-` in front, or without; `None` exactly where the text spells none.
-fn signed_text(text: &str) -> Option<Value>
-    ensures { Tells plain (signed_text text.now) result }
+fn signed_text(text: &str) -> Option<(u128, bool)>
+    ensures { result ≡ signed_text text.now }
 {
     match text.strip_prefix('-') {
         Some(digits) => signed_magnitude(true, digits),
@@ -33,21 +57,11 @@ fn signed_text(text: &str) -> Option<Value>
 }
 
 /// The integer of digits, below 0 or not; `None` exactly where they spell no magnitude.
-fn signed_magnitude(negative: bool, digits: &str) -> Option<Value>
-    ensures { Tells plain (option_map (signed_by negative) (magnitude_of digits.now)) result }
+fn signed_magnitude(negative: bool, digits: &str) -> Option<(u128, bool)>
+    ensures { result ≡ option_map (signed_by negative) (magnitude_of digits.now) }
 {
     let magnitude = magnitude_of(digits)?;
-    Some(signed_by(negative, magnitude))
-}
-
-/// The integer of a magnitude, below 0 or not.
-fn signed_by(negative: bool, magnitude: u128) -> Value
-    ensures { plain result ≡ signed_by negative magnitude }
-{
-    Value::Int {
-        magnitude,
-        negative,
-    }
+    Some((magnitude, negative))
 }
 
 /// The number below 2^128 that digits spell, the first of them not 0; `None` exactly where they spell none.
@@ -79,11 +93,4 @@ fn all_digits(text: &[u8]) -> bool
     ensures { result ≡ list_all is_ascii_digit text.now }
 {
     text.iter().all(|byte| byte.is_ascii_digit())
-}
-
-/// The value of an integer that JSON has.
-pub fn integer_of(number: i128) -> Value
-    ensures { plain result ≡ integer_of number }
-{
-    signed_by(number < 0, number.unsigned_abs())
 }

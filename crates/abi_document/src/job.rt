@@ -1,6 +1,6 @@
 use abi_layout::Desc;
 use abi_num::Target;
-use abi_pack::{Edits, Value};
+use abi_pack::{Bytes, Edits, Value};
 
 /// What a document asks for.
 #[derive(Drop)]
@@ -22,5 +22,17 @@ pub enum Work {
         value: Value,
         /// The edits in order.
         edits: Edits,
+    },
+    /// The layout of a type.
+    Layout {
+        /// The type.
+        desc: Desc,
+    },
+    /// The value that bytes show.
+    Read {
+        /// The type.
+        desc: Desc,
+        /// The bytes.
+        bytes: Bytes,
     },
 }

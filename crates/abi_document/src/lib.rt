@@ -2,14 +2,23 @@
 #![tactic(auto)]
 
 mod command;
+#[cfg(test)]
+mod description_tests;
 mod descriptions;
 mod documents;
 mod forms;
 mod integers;
 mod job;
 pub mod laws;
+mod leaves;
+mod primitives;
+mod targets;
 #[cfg(test)]
 mod tests;
+#[cfg(test)]
+mod told;
+#[cfg(test)]
+mod value_tests;
 mod values;
 
 pub use command::Command;

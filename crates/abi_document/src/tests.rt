@@ -1,272 +1,291 @@
-use crate::{Command, Job, Work, job_of};
-use abi_layout::Desc;
+//! Documents of each command: their keys, targets and bytes.
+
+use crate::told::told;
+use crate::{Command, Job, job_of};
 use abi_num::Target;
-use abi_pack::Value;
 use serde_json::Value as Json;
 use std::alloc::{AllocError, Global};
 use std::test::Fail;
 
-fn job_of_text(alloc: Global, text: &str) -> Result<Option<Job>, Fail> {
+/// The job that a text tells, if it tells one.
+pub fn job_in(alloc: Global, command: Command, text: &str) -> Result<Option<Job>, Fail> {
     let tree = Json::from_str(alloc, text)?;
-    Ok(job_of(alloc, Command::Pack, &tree)?)
+    Ok(job_of(alloc, command, &tree)?)
 }
 
-// The job of the document with this description and value.
-fn job(alloc: Global, desc: &str, value: &str) -> Result<Option<Job>, Fail> {
-    let text = format!(in alloc; "{{\"target\":\"le64\",\"desc\":{desc},\"value\":{value}}}")?;
-    job_of_text(alloc, &text)
+/// The text of the job of a document, or `none`.
+pub fn told_of(alloc: Global, command: Command, text: &str) -> Result<String, Fail> {
+    match job_in(alloc, command, text)? {
+        Some(job) => Ok(told(alloc, &job)?),
+        None => Ok(String::from_str(alloc, "none")?),
+    }
 }
 
-fn push_desc(alloc: Global, out: &mut String, desc: &Desc) -> Result<(), AllocError> {
-    match desc {
-        Desc::Prim(primitive) => out.push_str(&format!(in alloc; "{primitive:?}")?),
-        Desc::Struct {
-            name,
-            module,
-            version,
-            fields,
-            align,
-        } => {
-            let (name, module) = (name.as_str(), module.as_str());
-            out.push_str(&format!(in alloc; "{module}.{name} {version} {align:?} [")?)?;
-            for field in fields.as_slice() {
-                out.push_str(field.name.as_str())?;
-                out.push_str(": ")?;
-                push_desc(alloc, out, &field.ty)?;
-                out.push_str(",")?;
+/// An object that must have exactly these members, and the document around it.
+struct Object {
+    command: Command,
+    front: &'static str,
+    members: &'static [(&'static str, &'static str)],
+    back: &'static str,
+}
+
+static OBJECTS: [Object; 7] = [
+    Object {
+        command: Command::Pack,
+        front: "",
+        members: &[("target", r#""le64""#), ("desc", r#""u8""#), ("value", "7")],
+        back: "",
+    },
+    Object {
+        command: Command::Layout,
+        front: "",
+        members: &[("target", r#""le64""#), ("desc", r#""u8""#)],
+        back: "",
+    },
+    Object {
+        command: Command::Read,
+        front: "",
+        members: &[
+            ("target", r#""le64""#),
+            ("desc", r#""u8""#),
+            ("bytes", r#""07""#),
+        ],
+        back: "",
+    },
+    Object {
+        command: Command::Layout,
+        front: r#"{"desc":"u8","target":"#,
+        members: &[
+            ("little", "true"),
+            ("pointer", "8"),
+            ("u64_align", "8"),
+            ("u128_align", "16"),
+        ],
+        back: "}",
+    },
+    Object {
+        command: Command::Layout,
+        front: r#"{"target":"le64","desc":{"struct":"#,
+        members: &[
+            ("name", r#""S""#),
+            ("module", r#""demo""#),
+            ("fields", "[]"),
+        ],
+        back: "}}",
+    },
+    Object {
+        command: Command::Layout,
+        front: r#"{"target":"le64","desc":{"no_niches":"#,
+        members: &[
+            ("size", "8"),
+            ("align", "4"),
+            ("niches", r#""one""#),
+            ("indirections", "true"),
+        ],
+        back: "}}",
+    },
+    Object {
+        command: Command::Layout,
+        front: r#"{"target":"le64","desc":{"leaf":"#,
+        members: &[
+            ("name", r#""L""#),
+            ("module", r#""demo""#),
+            ("size", "3"),
+            ("align", "1"),
+            ("free", "[[1,255]]"),
+            ("forbidden", "[]"),
+            ("niches", r#""none""#),
+            ("indirections", "false"),
+        ],
+        back: "}}",
+    },
+];
+
+impl Object {
+    // The document with the member of that number left out, and with more members after the others.
+    fn document(&self, alloc: Global, left_out: usize, more: &str) -> Result<String, AllocError> {
+        let mut inside = String::new(alloc);
+        for (i, (key, content)) in self.members.iter().enumerate() {
+            if i != left_out {
+                inside.push_str(if inside.is_empty() { "" } else { "," })?;
+                inside.push_str(&format!(in alloc; "\"{key}\":{content}")?)?;
             }
-            out.push_str("]")
         }
-        Desc::Result { ok, err } => {
-            out.push_str("result of ")?;
-            push_desc(alloc, out, ok)?;
-            out.push_str(" and ")?;
-            push_desc(alloc, out, err)
-        }
-        Desc::Option { some } => {
-            out.push_str("option of ")?;
-            push_desc(alloc, out, some)
-        }
+        let (front, back) = (self.front, self.back);
+        format!(in alloc; "{front}{{{inside}{more}}}{back}")
     }
-}
-
-fn push_value(alloc: Global, out: &mut String, value: &Value) -> Result<(), AllocError> {
-    match value {
-        Value::Unit => out.push_str("unit"),
-        Value::Int {
-            magnitude,
-            negative,
-        } => {
-            let sign = if *negative { "-" } else { "+" };
-            out.push_str(&format!(in alloc; "{sign}{magnitude}")?)
-        }
-        Value::Bool(truth) => out.push_str(if *truth { "true" } else { "false" }),
-        Value::Order(_) => out.push_str("order"),
-        Value::Bytes(_) => out.push_str("bytes"),
-        Value::List(values) => {
-            out.push_str("[")?;
-            for value in values.as_slice() {
-                push_value(alloc, out, value)?;
-                out.push_str(",")?;
-            }
-            out.push_str("]")
-        }
-        Value::Ok(payload) => {
-            out.push_str("ok ")?;
-            push_value(alloc, out, payload)
-        }
-        Value::Err(payload) => {
-            out.push_str("err ")?;
-            push_value(alloc, out, payload)
-        }
-        Value::Some(payload) => {
-            out.push_str("some ")?;
-            push_value(alloc, out, payload)
-        }
-        Value::None => out.push_str("none"),
-    }
-}
-
-// What a job tells: description, `=`, value. Nothing where there is no job.
-fn told(alloc: Global, job: Option<Job>) -> Result<String, Fail> {
-    let mut out = String::new(alloc);
-    if let Some(job) = job {
-        let Work::Pack { desc, value, .. } = &job.work;
-        push_desc(alloc, &mut out, desc)?;
-        out.push_str(" = ")?;
-        push_value(alloc, &mut out, value)?;
-    }
-    Ok(out)
 }
 
 #[test]
-fn descriptions_of_each_form(rt: HostRuntime) -> Result<(), Fail> {
-    let rows = [
-        ("\"()\"", "Unit"),
-        ("\"bool\"", "Bool"),
-        ("\"u8\"", "U8"),
-        ("\"u16\"", "U16"),
-        ("\"u32\"", "U32"),
-        ("\"u64\"", "U64"),
-        ("\"u128\"", "U128"),
-        ("\"i8\"", "I8"),
-        ("\"i16\"", "I16"),
-        ("\"i32\"", "I32"),
-        ("\"i64\"", "I64"),
-        ("\"i128\"", "I128"),
-        ("\"NonZeroU8\"", "NonZeroU8"),
-        ("\"NonZeroU16\"", "NonZeroU16"),
-        ("\"NonZeroU32\"", "NonZeroU32"),
-        ("\"NonZeroU64\"", "NonZeroU64"),
-        ("\"NonZeroU128\"", "NonZeroU128"),
-        ("{\"option\":{\"option\":\"u8\"}}", "option of option of U8"),
-        (
-            "{\"result\":[{\"option\":\"bool\"},{\"result\":[\"()\",\"u8\"]}]}",
-            "result of option of Bool and result of Unit and U8",
-        ),
-        (
-            "{\"struct\":{\"name\":\"A\",\"module\":\"m\",\"fields\":[]}}",
-            "m.A 0 None []",
-        ),
-        (
-            "{\"struct\":{\"fields\":[[\"a\",\"bool\"],[\"\",{\"option\":\"u8\"}]],\"name\":\"A\",\"module\":\"m::n\",\"version\":4294967295}}",
-            "m::n.A 4294967295 None [a: Bool,: option of U8,]",
-        ),
-        (
-            "{\"struct\":{\"align\":16,\"version\":2,\"name\":\"\",\"module\":\"\",\"fields\":[]}}",
-            ". 2 Some(16) []",
-        ),
-    ];
-    for (desc, text) in rows {
-        let expected = format!(in rt.alloc(); "{text} = unit")?;
-        assert_eq!(rt; told(rt.alloc(), job(rt.alloc(), desc, "null")?)?, expected);
+fn objects_have_exactly_their_keys(rt: HostRuntime) -> Result<(), Fail> {
+    let alloc = rt.alloc();
+    for object in &OBJECTS {
+        let whole = object.document(alloc, usize::MAX, "")?;
+        assert!(rt; job_in(alloc, object.command, &whole)?.is_some(), "{whole}");
+        let longer = object.document(alloc, usize::MAX, ",\"other\":null")?;
+        assert!(rt;
+            job_in(alloc, object.command, &longer)?.is_none(),
+            "{longer}"
+        );
+        for i in 0..object.members.len() {
+            let shorter = object.document(alloc, i, "")?;
+            assert!(rt;
+                job_in(alloc, object.command, &shorter)?.is_none(),
+                "{shorter}"
+            );
+        }
+    }
+    Ok(())
+}
+
+// The last of two equal keys counts, and no member may be an empty object.
+#[test]
+fn members_have_their_types(rt: HostRuntime) -> Result<(), Fail> {
+    let alloc = rt.alloc();
+    for object in &OBJECTS {
+        for (key, _) in object.members {
+            let again = format!(in alloc; ",\"{key}\":{{}}")?;
+            let changed = object.document(alloc, usize::MAX, &again)?;
+            assert!(rt;
+                job_in(alloc, object.command, &changed)?.is_none(),
+                "{changed}"
+            );
+        }
     }
     Ok(())
 }
 
 #[test]
-fn values_of_each_form(rt: HostRuntime) -> Result<(), Fail> {
+fn targets_by_name_and_by_their_fields(rt: HostRuntime) -> Result<(), Fail> {
     let rows = [
-        ("null", "unit"),
-        ("true", "true"),
-        ("false", "false"),
-        ("0", "+0"),
-        ("7", "+7"),
-        ("-1", "-1"),
-        ("-9223372036854775808", "-9223372036854775808"),
-        ("18446744073709551615", "+18446744073709551615"),
-        ("\"0\"", "+0"),
-        ("\"-10\"", "-10"),
-        ("\"18446744073709551616\"", "+18446744073709551616"),
+        (r#""le64""#, true, 8, 8, 16),
+        (r#""le64o""#, true, 8, 8, 8),
+        (r#""be64""#, false, 8, 8, 16),
+        (r#""le32""#, true, 4, 8, 16),
+        (r#""le32o""#, true, 4, 4, 16),
+        (r#""be32""#, false, 4, 8, 8),
+        (r#""le16""#, true, 2, 4, 8),
         (
-            "\"-170141183460469231731687303715884105728\"",
-            "-170141183460469231731687303715884105728",
+            r#"{"little":true,"pointer":3,"u64_align":0,"u128_align":18446744073709551615}"#,
+            true,
+            3,
+            0,
+            18446744073709551615,
         ),
-        (
-            "\"340282366920938463463374607431768211455\"",
-            "+340282366920938463463374607431768211455",
-        ),
-        ("[]", "[]"),
-        (
-            "[1,2,[null,\"-3\"],{\"ok\":[]}]",
-            "[+1,+2,[unit,-3,],ok [],]",
-        ),
-        ("{\"ok\":{\"err\":null}}", "ok err unit"),
-        ("{\"some\":\"none\"}", "some none"),
-        ("{\"ok\":3,\"ok\":4}", "ok +4"),
     ];
-    for (value, text) in rows {
-        let expected = format!(in rt.alloc(); "Unit = {text}")?;
-        assert_eq!(rt;
-            told(rt.alloc(), job(rt.alloc(), "\"()\"", value)?)?,
-            expected
+    for (text, little, pointer, u64_align, u128_align) in rows {
+        let document = format!(in rt.alloc(); "{{\"target\":{text},\"desc\":\"u8\"}}")?;
+        let job = job_in(rt.alloc(), Command::Layout, &document)?;
+        let expected = Target {
+            little,
+            pointer,
+            u64_align,
+            u128_align,
+        };
+        assert_eq!(rt; job.map(|job| job.target), Some(expected), "{text}");
+    }
+    Ok(())
+}
+
+// Other names, other trees, and fields of other types.
+static NO_TARGETS: [&str; 12] = [
+    r#""le65""#,
+    r#""LE64""#,
+    r#""""#,
+    "64",
+    "null",
+    r#"["le64"]"#,
+    "{}",
+    r#"{"little":1,"pointer":8,"u64_align":8,"u128_align":16}"#,
+    r#"{"little":true,"pointer":-8,"u64_align":8,"u128_align":16}"#,
+    r#"{"little":true,"pointer":8.0,"u64_align":8,"u128_align":16}"#,
+    r#"{"little":true,"pointer":8,"u64_align":"8","u128_align":16}"#,
+    r#"{"little":true,"pointer":8,"u64_align":8,"u128_align":18446744073709551616}"#,
+];
+
+#[test]
+fn trees_that_are_no_target(rt: HostRuntime) -> Result<(), Fail> {
+    for text in &NO_TARGETS {
+        let document = format!(in rt.alloc(); "{{\"target\":{text},\"desc\":\"u8\"}}")?;
+        assert!(rt;
+            job_in(rt.alloc(), Command::Layout, &document)?.is_none(),
+            "{text}"
         );
     }
     Ok(())
 }
 
+// Trees, and the bytes that each spells.
+static BYTES: [(&str, &str); 12] = [
+    (r#""""#, "U8 in"),
+    (r#""00""#, "U8 in 0"),
+    (r#""0aFf10""#, "U8 in 10 255 16"),
+    (r#""0""#, "none"),
+    (r#""0g""#, "none"),
+    (r#""0x00""#, "none"),
+    (r#"" 0""#, "none"),
+    (r#""0 00""#, "none"),
+    (r#""\u00e9""#, "none"),
+    ("0", "none"),
+    ("null", "none"),
+    ("[0]", "none"),
+];
+
 #[test]
-fn trees_that_are_no_description(rt: HostRuntime) -> Result<(), Fail> {
-    let rows = [
-        "\"f32\"",
-        "\"U8\"",
-        "\"\"",
-        "null",
-        "8",
-        "[\"u8\",\"u8\"]",
-        "{}",
-        "{\"array\":\"u8\"}",
-        "{\"option\":\"f32\"}",
-        "{\"option\":\"u8\",\"result\":[\"u8\",\"u8\"]}",
-        "{\"result\":[\"u8\"]}",
-        "{\"result\":[\"u8\",\"u8\",\"u8\"]}",
-        "{\"result\":\"u8\"}",
-        "{\"struct\":[]}",
-        "{\"struct\":{\"module\":\"m\",\"fields\":[]}}",
-        "{\"struct\":{\"name\":\"A\",\"fields\":[]}}",
-        "{\"struct\":{\"name\":\"A\",\"module\":\"m\"}}",
-        "{\"struct\":{\"name\":\"A\",\"module\":\"m\",\"fields\":{}}}",
-        "{\"struct\":{\"name\":\"A\",\"module\":\"m\",\"fields\":[\"u8\"]}}",
-        "{\"struct\":{\"name\":\"A\",\"module\":\"m\",\"fields\":[[\"a\",\"u8\",\"u8\"]]}}",
-        "{\"struct\":{\"name\":\"A\",\"module\":\"m\",\"fields\":[],\"size\":1}}",
-        "{\"struct\":{\"name\":\"A\",\"module\":\"m\",\"fields\":[],\"version\":4294967296}}",
-        "{\"struct\":{\"name\":\"A\",\"module\":\"m\",\"fields\":[],\"version\":null}}",
-        "{\"struct\":{\"name\":\"A\",\"module\":\"m\",\"fields\":[],\"align\":-1}}",
-        "{\"struct\":{\"name\":\"A\",\"module\":\"m\",\"fields\":[],\"align\":\"8\"}}",
-        "{\"struct\":{\"name\":\"A\\n\",\"module\":\"m\",\"fields\":[]}}",
-        "{\"struct\":{\"name\":\"A\\u007f\",\"module\":\"m\",\"fields\":[]}}",
-        "{\"struct\":{\"name\":\"A\",\"module\":\"\\u00e9\",\"fields\":[]}}",
-    ];
-    for text in rows {
-        assert!(rt; job(rt.alloc(), text, "null")?.is_none(), "{text}");
+fn bytes_are_pairs_of_digits_of_either_case(rt: HostRuntime) -> Result<(), Fail> {
+    for (bytes, text) in &BYTES {
+        let document = format!(in rt.alloc();
+            "{{\"target\":\"le64\",\"desc\":\"u8\",\"bytes\":{bytes}}}"
+        )?;
+        assert_eq!(rt;
+            told_of(rt.alloc(), Command::Read, &document)?.as_str(),
+            *text,
+            "{bytes}"
+        );
     }
     Ok(())
 }
 
-#[test]
-fn trees_that_are_no_value(rt: HostRuntime) -> Result<(), Fail> {
-    let rows = [
-        "1.5",
-        "1e3",
-        "-0",
-        "18446744073709551616",
-        "\"\"",
-        "\"00\"",
-        "\"01\"",
-        "\"-0\"",
-        "\"-\"",
-        "\"--1\"",
-        "\"+1\"",
-        "\"1.0\"",
-        "\" 1\"",
-        "\"340282366920938463463374607431768211456\"",
-        "\"None\"",
-        "\"less\"",
-        "{}",
-        "{\"bytes\":\"00\"}",
-        "{\"ok\":1.5}",
-        "{\"ok\":1,\"err\":1}",
-        "{\"none\":null}",
-        "[1,\"x\"]",
-    ];
-    for text in rows {
-        assert!(rt; job(rt.alloc(), "\"()\"", text)?.is_none(), "{text}");
-    }
-    Ok(())
-}
+// Documents of a command, and what each tells.
+static DOCUMENTS: [(Command, &str, &str); 8] = [
+    (
+        Command::Pack,
+        r#"{"value":null,"desc":"()","target":"le64"}"#,
+        "Unit = unit",
+    ),
+    (
+        Command::Layout,
+        r#"{"target":"be65","desc":1,"target":"le64","desc":"()"}"#,
+        "Unit",
+    ),
+    (Command::Pack, "{}", "none"),
+    (Command::Pack, r#"["le64","()",null]"#, "none"),
+    (Command::Pack, r#"{"target":"le64","desc":"()"}"#, "none"),
+    (
+        Command::Layout,
+        r#"{"target":"le64","desc":"()","value":null}"#,
+        "none",
+    ),
+    (
+        Command::Read,
+        r#"{"target":"le64","desc":"()","value":null}"#,
+        "none",
+    ),
+    (
+        Command::Pack,
+        r#"{"target":"le64","desc":"()","value":null,"edits":[]}"#,
+        "none",
+    ),
+];
 
 #[test]
-fn names_of_256_bytes_and_of_257(rt: HostRuntime) -> Result<(), Fail> {
-    for (count, is_name) in [(256, true), (257, false)] {
-        let name = "~".repeat(rt.alloc(), count)?;
-        let desc = format!(in rt.alloc();
-            "{{\"struct\":{{\"name\":\" \",\"module\":\"{name}\",\"fields\":[]}}}}"
-        )?;
-        assert_eq!(rt; job(rt.alloc(), &desc, "null")?.is_some(), is_name);
-        let desc = format!(in rt.alloc();
-            "{{\"struct\":{{\"name\":\"{name}\",\"module\":\" \",\"fields\":[]}}}}"
-        )?;
-        assert_eq!(rt; job(rt.alloc(), &desc, "null")?.is_some(), is_name);
+fn documents_are_objects_with_the_keys_of_their_command(rt: HostRuntime) -> Result<(), Fail> {
+    for (command, document, text) in &DOCUMENTS {
+        assert_eq!(rt;
+            told_of(rt.alloc(), *command, document)?.as_str(),
+            *text,
+            "{document}"
+        );
     }
     Ok(())
 }
@@ -283,46 +302,9 @@ fn parts_nest_as_deep_as_documents_do(rt: HostRuntime) -> Result<(), Fail> {
         "[".repeat(rt.alloc(), 126)?,
         "]".repeat(rt.alloc(), 126)?
     )?;
-    assert!(rt; job(rt.alloc(), &desc, &value)?.is_some());
-    Ok(())
-}
-
-#[test]
-fn documents_have_exactly_their_keys(rt: HostRuntime) -> Result<(), Fail> {
-    let rows = [
-        ("{\"target\":\"le64\",\"desc\":\"()\",\"value\":null}", true),
-        ("{\"value\":null,\"desc\":\"()\",\"target\":\"le64\"}", true),
-        (
-            "{\"target\":\"be64\",\"desc\":1,\"value\":null,\"target\":\"le64\",\"desc\":\"()\"}",
-            true,
-        ),
-        ("{}", false),
-        ("[\"le64\",\"()\",null]", false),
-        ("{\"desc\":\"()\",\"value\":null}", false),
-        ("{\"target\":\"le64\",\"value\":null}", false),
-        ("{\"target\":\"le64\",\"desc\":\"()\"}", false),
-        (
-            "{\"target\":\"be64\",\"desc\":\"()\",\"value\":null}",
-            false,
-        ),
-        ("{\"target\":64,\"desc\":\"()\",\"value\":null}", false),
-        (
-            "{\"target\":\"le64\",\"desc\":\"()\",\"value\":null,\"edits\":[]}",
-            false,
-        ),
-        (
-            "{\"target\":\"le64\",\"desc\":\"()\",\"value\":null,\"Value\":1}",
-            false,
-        ),
-    ];
-    for (text, is_document) in rows {
-        assert_eq!(rt;
-            job_of_text(rt.alloc(), text)?.is_some(),
-            is_document,
-            "{text}"
-        );
-    }
-    let job = job(rt.alloc(), "\"()\"", "null")?;
-    assert!(rt; job.map(|job| job.target) == Target::named("le64"));
+    let document = format!(in rt.alloc();
+        "{{\"target\":\"le64\",\"desc\":{desc},\"value\":{value}}}"
+    )?;
+    assert!(rt; job_in(rt.alloc(), Command::Pack, &document)?.is_some());
     Ok(())
 }

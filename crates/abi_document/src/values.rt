@@ -1,19 +1,18 @@
 //! Values, from trees of JSON.
 
-ghost use Rattle.std.specs.Prelude.{IfOk, map, option_map};
-ghost use Rattle.serde_json.specs.Find.{as_integer};
-ghost use Rattle.serde_json.specs.View.{view, items_view, number_view};
+ghost use Rattle.std.specs.Prelude.{◌≡◌, IfOk, map};
+ghost use Rattle.serde_json.specs.View.{view, items_view};
 ghost use Rattle.abi_pack.specs.View.{plain};
 ghost use Rattle.abi_document.specs.Forms.{Tells, all_of};
-ghost use Rattle.abi_document.specs.Integers.{integer_of};
-ghost use Rattle.abi_document.specs.Values.{boxed, text_value, form_of, value_step, value_at};
+ghost use Rattle.abi_document.specs.Values.{boxed, integer, text_value, form_of, value_step, value_at};
 
-use crate::forms::sole_member;
-use crate::integers::{integer_of, integer_text};
+use crate::forms::{bytes_of, sole_member};
+use crate::integers::{integer_number, integer_text};
 use abi_num::OutOfMemory;
 use abi_pack::{Value, Values};
-use serde_json::{Number, Value as Json};
+use serde_json::Value as Json;
 use std::alloc::Global;
+use std::cmp::Ordering;
 
 /// A value that nests fewer than that many levels; `None` exactly where the tree is none.
 #[cycle(reading)]
@@ -36,7 +35,7 @@ fn value_step(alloc: Global, levels: usize, json: &Json) -> Result<Option<Value>
     match json {
         Json::Null => Ok(Some(Value::Unit)),
         Json::Bool(truth) => Ok(Some(Value::Bool(*truth))),
-        Json::Number(number) => Ok(number_value(number)),
+        Json::Number(number) => Ok(integer_number(number).map(integer)),
         Json::String(text) => Ok(text_value(text.as_str())),
         Json::Array(items) => Ok(values_of(alloc, levels, items.as_slice())?.map(Value::List)),
         Json::Object(_) => match sole_member(json) {
@@ -46,21 +45,28 @@ fn value_step(alloc: Global, levels: usize, json: &Json) -> Result<Option<Value>
     }
 }
 
-/// An integer that JSON does not hold as a float; `None` exactly where it holds one.
-fn number_value(number: &Number) -> Option<Value>
-    ensures { Tells plain (option_map integer_of (as_integer (number_view number.now))) result }
-{
-    Some(integer_of(number.as_i128()?))
-}
-
-/// The value that a text tells: `None`, or an integer.
+/// The value that a text tells: a word, or an integer; `None` exactly where it tells none.
+#[tactic(auto, unfolding(crate::specs::Values::text_value))]
 fn text_value(text: &str) -> Option<Value>
     ensures { Tells plain (text_value text.now) result }
 {
-    if text == "none" {
-        Some(Value::None)
-    } else {
-        integer_text(text)
+    match text {
+        "none" => Some(Value::None),
+        "less" => Some(Value::Order(Ordering::Less)),
+        "equal" => Some(Value::Order(Ordering::Equal)),
+        "greater" => Some(Value::Order(Ordering::Greater)),
+        _ => integer_text(text).map(integer),
+    }
+}
+
+/// The value that is an integer of a magnitude, below 0 or not.
+fn integer(signed: (u128, bool)) -> Value
+    ensures { plain result ≡ integer signed }
+{
+    let (magnitude, negative) = signed;
+    Value::Int {
+        magnitude,
+        negative,
     }
 }
 
@@ -95,6 +101,7 @@ fn form_of(
         "ok" => Ok(boxed_at(alloc, levels, content)?.map(Value::Ok)),
         "err" => Ok(boxed_at(alloc, levels, content)?.map(Value::Err)),
         "some" => Ok(boxed_at(alloc, levels, content)?.map(Value::Some)),
+        "bytes" => Ok(bytes_of(alloc, content)?.map(Value::Bytes)),
         _ => Ok(None),
     }
 }

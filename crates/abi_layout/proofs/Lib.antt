@@ -2,9 +2,14 @@ pub mod Bytes
 pub mod Causes
 pub mod Faultless
 pub mod Folding
+pub mod Frames
+pub mod Halving
+pub mod LeafRules
 pub mod Making
 pub mod Opening
+pub mod Repeating
 pub mod Rows
+pub mod SolePatterns
 pub mod Sounding
 pub mod Steps
 pub mod Views
@@ -12,3 +17,7 @@ pub mod WorkedRows
 pub mod Zeros
 pub mod PartViews
 pub mod Walking
+pub mod FieldReports
+pub mod PlainReports
+pub mod ReadNames
+pub mod Sides

@@ -2,8 +2,11 @@
 use Rattle.std.proofs.Common.{◌≡◌, ℕ, List, rules}
 use Rattle.std.specs.declared.boxed.Box.{Box}
 use Rattle.std.specs.declared.alloc.Global.{Global}
+use Rattle.abi_bits.specs.Pairs.{Pair}
+use Rattle.abi_bits.specs.Forbidden.{items}
+use Rattle.abi_bits.specs.declared.forbidden_values.ForbiddenValues.{ForbiddenValues}
 use Rattle.abi_layout.specs.Trees.{sides}
-use Rattle.abi_layout.specs.Shape.{scalar, fields, sum, repeated}
+use Rattle.abi_layout.specs.Shape.{scalar, raw, atom, fields, sum, repeated}
 use Rattle.abi_layout.specs.PartView.{shape, shapes}
 use Rattle.abi_layout.specs.declared.scalar.Scalar.{Scalar}
 use Rattle.abi_layout.specs.declared.part.Compound.TheVariants as compound
@@ -13,8 +16,11 @@ use Rattle.abi_layout.specs.declared.part.PartField.{PartField}
 use Rattle.abi_layout.specs.declared.part.Part.{Part, the_lemmas as part_lemmas}
 use Rattle.abi_layout.specs.declared.part.Part.TheVariants as part
 
-pub shape_scalar : (c : Scalar) → shape (part.Scalar c) ≡ scalar c
+pub shape_scalar : (c : Scalar) → shape (part.Scalar c) ≡ atom (scalar c)
 shape_scalar c = search (rules, part_lemmas)
+
+pub shape_raw : (n : ℕ) (free : List Pair) (forbidden : ForbiddenValues) → shape (part.Raw n free forbidden) ≡ atom (raw n free (items forbidden))
+shape_raw n free forbidden = search (rules, part_lemmas)
 
 pub shape_struct : (fs : List PartField) (n : ℕ) → shape (part.Struct fs n) ≡ fields compound.Struct n (shapes fs)
 shape_struct fs n = search (rules, part_lemmas)

@@ -1,11 +1,11 @@
 -- Where no part has a fault, every part's frame keeps what the frames of layouts keep.
-use Rattle.std.proofs.Common.{◌≡◌, ℕ, ◌+◌, ◌-◌, ◌<◌, ◌≤◌, Bool, true, false, ◌&&◌, List, [], ◌∷◌, ◌++◌, map, Option, Some, None, cond, leb, ltb, lit<, bit_or, refl, arith}
+use Rattle.std.proofs.Common.{◌≡◌, ℕ, ◌+◌, ◌-◌, ◌*◌, ◌%◌, ◌<◌, ◌≤◌, Bool, true, false, ◌&&◌, ◌||◌, List, [], ◌∷◌, ◌++◌, map, Option, Some, None, cond, eqb, leb, ltb, lit<, bit_or, refl, arith}
 use Rattle.std.specs.List.{list_all}
 use Rattle.std.specs.Int.{next_multiple_of}
 use Rattle.std.proofs.lemmas.Nat.{or_lt}
 use Rattle.std.proofs.lemmas.List.{map-append}
 use Rattle.std.proofs.lemmas.List.Folds.{list_all-append}
-use Rattle.std.proofs.lemmas.Bool.{and_parts, and_from, le-leb, ltb-true, lt-ltb}
+use Rattle.std.proofs.lemmas.Bool.{and_parts, and_from, le-leb, ltb-true, lt-ltb, eqb-true}
 use Rattle.abi_bits.specs.Pairs.{Pair, are_rising, is_pattern, moved_pairs, are_below}
 use Rattle.abi_bits.specs.Mask.{mask_at, IsMask}
 use Rattle.abi_bits.specs.Forbidden.{Item, pattern, range, offer, offered, moved_item, is_solid_byte, is_solid_item}
@@ -14,28 +14,39 @@ use Rattle.abi_bits.proofs.Entries.{entries_are_mask, mask_at_lt}
 use Rattle.abi_num.specs.Target.{is_row}
 use Rattle.abi_num.specs.declared.target.Target.{Target}
 use Rattle.abi_det.specs.Frame.{Frame, is_lawful, IsLawful}
-use Rattle.abi_det.specs.Offers.{Rules, or_else, first_of}
+use Rattle.abi_det.specs.Offers.{Rules, first_of}
 use Rattle.abi_det.specs.Written.{written_sum}
 use Rattle.abi_det.specs.SoundPlacement.{are_bytes, IsWellFormed}
 use Rattle.abi_det.proofs.Chosen.{sound_sum}
 use Rattle.abi_det.proofs.Lawful.{parts as lawful_parts}
-use Rattle.abi_layout.specs.Builders.{start_after, whole_between, byte_from}
+use Rattle.abi_det.proofs.Sizes.{lawful_from}
+use Rattle.abi_num.specs.Alignment.{is_alignment}
+use Rattle.abi_bits.specs.declared.saturating_add_value.SaturatingAddValue.{SaturatingAddValue}
+use Rattle.abi_bits.specs.declared.saturating_add_value.SaturatingAddValue.TheVariants as count
+use Rattle.abi_layout.specs.Builders.{start_after, whole_between, byte_from, bare, overlaid, repeated}
+use Rattle.abi_layout.specs.CoreSums.{payload_first, core_frame}
+use Rattle.abi_layout.specs.Forms.{form_of}
+use Rattle.abi_layout.specs.Leaves.{is_sized}
 use Rattle.abi_layout.specs.Structs.{positions, end_of, fields_align, fields_byte, fields_items, first_head, struct_frame}
-use Rattle.abi_layout.specs.declared.desc_error.DescError.{DescError}
+use Rattle.abi_layout.specs.declared.desc.WrapKind.{WrapKind}
+use Rattle.abi_layout.specs.declared.desc.WrapKind.TheVariants as wrapper
+use Rattle.abi_layout.specs.declared.desc_error.DescError.TheVariants as fault
+use Rattle.abi_layout.specs.declared.primitives.Row.{Row}
 use Rattle.abi_layout.specs.declared.scalar.Scalar.{Scalar}
 use Rattle.abi_layout.specs.declared.scalar.Scalar.TheVariants as scalars
 use Rattle.abi_layout.specs.declared.scalar.Width.{Width}
 use Rattle.abi_layout.specs.declared.scalar.Width.TheVariants as width
-use Rattle.abi_layout.specs.Prims.{scalar_of, width_size, zero_bytes, scalar_items, scalar_head, scalar_frame}
+use Rattle.abi_layout.specs.Prims.{width_size, zero_bytes, scalar_items, scalar_head, row_frame, prim_row, pointer_row}
 use Rattle.abi_layout.specs.Folds.{AreLawful}
 use Rattle.abi_layout.specs.Trees as tree
-use Rattle.abi_layout.specs.Trees.{Tree, Branches, variant_parts, parts, parts_in}
-use Rattle.abi_layout.specs.Frames.{written_frame, written_frames}
-use Rattle.abi_layout.specs.Faults.{size_fault, align_fault, sum_fault, part_fault, part_fault_in}
-use Rattle.abi_layout.proofs.Faultless.{no_fault, small_enough, right_request, struct_lawful}
+use Rattle.abi_layout.specs.Trees.{Tree, Branches, Label, sides, leaf_items, parts, parts_in}
+use Rattle.abi_layout.specs.Frames.{wrapped, written_frame, written_frames}
+use Rattle.abi_layout.specs.Faults.{part_fault, part_fault_in}
+use Rattle.abi_layout.proofs.Faultless.{no_fault, held, IsFaultless, own, after_one, after_two, leaf_faultless, right_request, struct_lawful}
+use Rattle.abi_layout.proofs.LeafRules.{leaf_sound}
 use Rattle.abi_layout.proofs.Folding.{lawful_keeps, first_start, unmoved_pairs}
-use Rattle.abi_layout.proofs.Opening.{solid_parts}
-use Rattle.abi_layout.proofs.Rows.{scalar_lawful}
+use Rattle.abi_layout.proofs.Opening.{solid_parts, rows_lawful, overlaid_lawful}
+use Rattle.abi_layout.proofs.Rows.{row_lawful, pointer_lawful}
 
 -- each of the frames is well-formed
 abbrev pub AreWellFormed : List Frame → Type 0
@@ -177,6 +188,7 @@ struct_sound fs align s l =
 lead_scalar : (c : Scalar) (ps : List Pair) → scalar_head c ≡ Some ps → first_of (offered (scalar_items c)) ≡ Some ps
 lead_scalar scalars.Unit ps e = absurd (cc)
 lead_scalar scalars.Bool ps e = e
+lead_scalar scalars.Order ps e = e
 lead_scalar (scalars.Int i) ps e = by_zero i.zero (zero_bytes (width_size i.width)) ps e where
   by_zero : (zero : Bool) (zeros ps : List Pair) → cond zero None (Some zeros) ≡ Some ps → first_of (offered (cond zero [] (pattern zeros ∷ []))) ≡ Some ps
   by_zero true zeros ps e = absurd (cc)
@@ -195,50 +207,122 @@ each_offered : (keeps : List Pair → Bool) (c : Scalar) → keeps ((0, 2) ∷ [
     → list_all keeps (offered (scalar_items c)) ≡ true
 each_offered keeps scalars.Unit two zeros = refl
 each_offered keeps scalars.Bool two zeros = and_from (keeps ((0, 2) ∷ [])) true two refl
+each_offered keeps scalars.Order two zeros = and_from (keeps ((0, 2) ∷ [])) true two refl
 each_offered keeps (scalars.Int i) two zeros = by_zero i.zero (zero_bytes (width_size i.width)) (zeros i.width) where
   by_zero : (zero : Bool) (ps : List Pair) → keeps ps ≡ true → list_all keeps (offered (cond zero [] (pattern ps ∷ []))) ≡ true
   by_zero true ps k = refl
   by_zero false ps k = and_from (keeps ps) true k refl
 
-scalar_sound : (target : Target) (c : Scalar) → is_row target ≡ true → IsWellFormed (scalar_frame target c)
-unfolding scalar_frame
-scalar_sound target c row = record {
-  lawful = scalar_lawful target c row;
+row_sound : (r : Row) → IsLawful (row_frame r) → IsWellFormed (row_frame r)
+unfolding row_frame
+row_sound r l = record {
+  lawful = l;
   mask = refl;
-  patterns = each_offered is_pattern c refl (λ w. (zeros_kept w).0);
-  bytes = each_offered are_bytes c refl (λ w. (zeros_kept w).1);
-  leads = lead_scalar c;
+  patterns = each_offered is_pattern r.scalar refl (λ w. (zeros_kept w).0);
+  bytes = each_offered are_bytes r.scalar refl (λ w. (zeros_kept w).1);
+  leads = lead_scalar r.scalar;
 }
 
-sound_whole : (rules : Rules) (ok err : Frame) (part : ℕ) → IsWellFormed ok → IsWellFormed err → size_fault part (written_sum rules ok err) ≡ None → IsWellFormed (written_sum rules ok err)
-unfolding written_sum
-sound_whole rules ok err part so se h = sound_sum rules ok err so se (small_enough part (written_sum rules ok err) h)
+-- ---- frames made of frames
+
+bare_sound : (size align : ℕ) (niches : SaturatingAddValue) (indirections : Bool) → IsLawful (bare size align niches indirections)
+    → IsWellFormed (bare size align niches indirections)
+bare_sound size align niches indirections l = record { lawful = l; mask = refl; patterns = refl; bytes = refl; leads = λ ps e. absurd (cc) }
+
+bytes_sound : (size align : ℕ) (niches : SaturatingAddValue) (indirections : Bool) → is_sized size align ≡ true → size ≤ 1048576
+    → IsWellFormed (bare size align niches indirections)
+bytes_sound size align niches indirections sized small =
+    let p = and_parts (is_alignment align) (eqb (size % align) 0) sized in
+    bare_sound size align niches indirections
+    (lawful_from (bare size align niches indirections) p.0 small (eqb-true (size % align) 0 p.1) refl refl)
+
+repeated_sound : (item : Frame) (len : ℕ) → IsWellFormed item → (repeated item len).size ≤ 1048576 → IsWellFormed (repeated item len)
+unfolding repeated
+repeated_sound item len s small = by_len (eqb len 1) small where
+  niches : SaturatingAddValue
+  niches = cond (eqb len 0) count.B0 count.Saturator
+
+  row : Frame
+  row = bare (item.size * len) item.align niches item.indirections
+
+  by_len : (one : Bool) → (cond one item row).size ≤ 1048576 → IsWellFormed (cond one item row)
+  by_len true small = s
+  by_len false small = bare_sound (item.size * len) item.align niches item.indirections (rows_lawful item len niches item.indirections s.lawful small)
+
+overlaid_sound : (ok err : Frame) → IsLawful ok → IsLawful err → IsWellFormed (overlaid ok err)
+unfolding overlaid
+overlaid_sound ok err l m =
+    bare_sound (overlaid ok err).size (overlaid ok err).align count.B0 (overlaid ok err).indirections (overlaid_lawful ok err l m)
+
+-- as many bytes as a layout has, with nothing free or forbidden
+blank_sound : (f : Frame) (niches : SaturatingAddValue) (indirections : Bool) → IsLawful f → IsWellFormed (bare f.size f.align niches indirections)
+blank_sound f niches indirections l =
+    let p = lawful_parts f l in
+    bare_sound f.size f.align niches indirections (lawful_from (bare f.size f.align niches indirections) p.align p.size p.multiple refl refl)
+
+core_sound : (ok err : Frame) → IsLawful ok → IsLawful err → IsWellFormed (core_frame ok err)
+core_sound ok err l m = by_side (payload_first ok err) where
+  by_side : (first : Bool) → IsWellFormed (bare (sides ok err first).size (sides ok err first).align count.B0 (ok.indirections || err.indirections))
+  by_side true = blank_sound ok count.B0 (ok.indirections || err.indirections) l
+  by_side false = blank_sound err count.B0 (ok.indirections || err.indirections) m
+
+-- what a wrapper changes is asked of no layout
+wrapped_sound : (kind : WrapKind) (f : Frame) → IsWellFormed f → IsWellFormed (wrapped kind f)
+wrapped_sound wrapper.ManuallyDrop f s = s
+wrapped_sound wrapper.MaybeUninit f s = record { lawful = s.lawful; mask = s.mask; patterns = s.patterns; bytes = s.bytes; leads = s.leads }
+wrapped_sound wrapper.UnsafeCell f s = record { lawful = s.lawful; mask = s.mask; patterns = s.patterns; bytes = s.bytes; leads = s.leads }
+wrapped_sound wrapper.Pin f s = s
+wrapped_sound wrapper.NotPod f s = record { lawful = s.lawful; mask = s.mask; patterns = s.patterns; bytes = s.bytes; leads = s.leads }
+wrapped_sound wrapper.OrInfallible f s = s
+
+-- ---- all parts
 
 all_lawful : (fs : List Frame) → AreWellFormed fs → AreLawful fs
 all_lawful [] s = refl
 all_lawful (f ∷ fs) s = and_from (is_lawful f) (list_all is_lawful fs) s.0.lawful (all_lawful fs s.1)
 
+-- a struct of such frames that has no fault itself
+whole_sound : (rules : Rules) (target : Target) (part : ℕ) (label : Label) (fs : Branches) (align : Option ℕ) → AreWellFormed (written_frames rules target fs)
+    → IsFaultless rules target part (tree.struct label fs align) → IsWellFormed (struct_frame (written_frames rules target fs) align)
+whole_sound rules target part label fs align s h =
+    let frames = written_frames rules target fs in
+    struct_sound frames align s (struct_lawful frames align (all_lawful frames s) (right_request part align h.form) h.small)
+
+sum_sound : (rules : Rules) (ok err : Frame) → IsWellFormed ok → IsWellFormed err → (written_sum rules ok err).size ≤ 1048576 → IsWellFormed (written_sum rules ok err)
+unfolding written_sum
+sum_sound rules ok err so se small = sound_sum rules ok err so se small
+
 mutual
   pub part_sound : (rules : Rules) (target : Target) (first : ℕ) (t : Tree) → is_row target ≡ true → part_fault rules target first t ≡ None → IsWellFormed (written_frame rules target t)
-  part_sound rules target first (tree.prim p) row h = scalar_sound target (scalar_of target p) row
+  part_sound rules target first (tree.prim p) row h = row_sound (prim_row target p) (row_lawful target (form_of p) row)
   part_sound rules target first (tree.struct label fs align) row h =
-      let whole : Option DescError = size_fault (first + parts_in fs) (written_frame rules target (tree.struct label fs align)) in
-      let a = no_fault (part_fault_in rules target first fs) (or_else (align_fault (first + parts_in fs) align) whole) h in
-      let b = no_fault (align_fault (first + parts_in fs) align) whole a.1 in
-      let s = parts_sound rules target first fs row a.0 in
-      struct_sound (written_frames rules target fs) align s
-      (struct_lawful (written_frames rules target fs) align (all_lawful (written_frames rules target fs) s) (right_request (first + parts_in fs) align b.0)
-      (small_enough (first + parts_in fs) (struct_frame (written_frames rules target fs) align) b.1))
+      let p = after_one (part_fault_in rules target first fs) rules target (first + parts_in fs) (tree.struct label fs align) h in
+      whole_sound rules target (first + parts_in fs) label fs align (parts_sound rules target first fs row p.0) p.1
+  part_sound rules target first (tree.array item len) row h =
+      let p = after_one (part_fault rules target first item) rules target (first + parts item) (tree.array item len) h in
+      repeated_sound (written_frame rules target item) len (part_sound rules target first item row p.0) p.1.small
+  part_sound rules target first (tree.union side) row h =
+      let p = after_two _ _ rules target _ (tree.union side) h in
+      overlaid_sound (written_frame rules target (side true)) (written_frame rules target (side false))
+      (part_sound rules target first (side true) row p.0).lawful (part_sound rules target (first + parts (side true)) (side false) row p.1).lawful
   part_sound rules target first (tree.sum names side) row h =
-      let ok = written_frame rules target (side true) in
-      let err = written_frame rules target (side false) in
-      let number : ℕ = first + variant_parts names (parts (side true)) (parts (side false)) in
-      let whole : Option DescError = sum_fault rules number ok err in
-      let second : Option DescError = part_fault rules target (first + parts (side true)) (side false) in
-      let a = no_fault (part_fault rules target first (side true)) (or_else second whole) h in
-      let b = no_fault second whole a.1 in
-      sound_whole rules ok err number
-      (part_sound rules target first (side true) row a.0) (part_sound rules target (first + parts (side true)) (side false) row b.0) b.1
+      let p = after_two _ _ rules target _ (tree.sum names side) h in
+      sum_sound rules (written_frame rules target (side true)) (written_frame rules target (side false))
+      (part_sound rules target first (side true) row p.0) (part_sound rules target (first + parts (side true)) (side false) row p.1) p.2.small
+  part_sound rules target first (tree.core names side) row h =
+      let p = after_two _ _ rules target _ (tree.core names side) h in
+      core_sound (written_frame rules target (side true)) (written_frame rules target (side false))
+      (part_sound rules target first (side true) row p.0).lawful (part_sound rules target (first + parts (side true)) (side false) row p.1).lawful
+  part_sound rules target first (tree.wrap kind t) row h =
+      wrapped_sound kind (written_frame rules target t)
+      (part_sound rules target first t row (after_one _ rules target _ (tree.wrap kind t) h).0)
+  part_sound rules target first (tree.stable_if value condition) row h =
+      part_sound rules target first value row (after_two _ _ rules target _ (tree.stable_if value condition) h).0
+  part_sound rules target first (tree.pointer kind t) row h = row_sound (pointer_row target kind) (pointer_lawful target kind row)
+  part_sound rules target first (tree.no_niches size align niches indirections) row h =
+      let p = own rules target first (tree.no_niches size align niches indirections) h in
+      bytes_sound size align niches indirections (held (is_sized size align) (fault.IllFormed first) p.form) p.small
+  part_sound rules target first (tree.leaf l) row h = let p = leaf_faultless rules target first l h in leaf_sound l p.0 p.1
 
   pub parts_sound : (rules : Rules) (target : Target) (first : ℕ) (fs : Branches) → is_row target ≡ true → part_fault_in rules target first fs ≡ None
       → AreWellFormed (written_frames rules target fs)

@@ -17,12 +17,9 @@ use Rattle.abi_layout.specs.Structs.{end_of, struct_frame}
 use Rattle.abi_layout.specs.Folds.{folded, opened, closed_by, AreLawful}
 use Rattle.abi_num.specs.Target.{is_row}
 use Rattle.abi_num.specs.declared.target.Target.{Target}
-use Rattle.abi_layout.specs.declared.scalar.Scalar.{Scalar}
-use Rattle.abi_layout.specs.Prims.{align_of, scalar_size, scalar_items, scalar_head, scalar_count, scalar_frame}
 use Rattle.abi_layout.specs.Trees.{Tree, parts}
-use Rattle.abi_layout.proofs.Rows.{scalar_lawful}
 use Rattle.abi_layout.specs.Faults.{IsFault, part_fault, desc_fault, size_fault, align_fault, struct_fault, sum_fault}
-use Rattle.abi_layout.proofs.Folding.{same_frame, all_parts, end_least, first_end, lawful_keeps, fold_is_struct}
+use Rattle.abi_layout.proofs.Folding.{all_parts, end_least, first_end, lawful_keeps, fold_is_struct}
 use Rattle.abi_layout.proofs.Faultless.{right_request, closed_by_lawful, struct_end}
 
 field_at : (fs : List Frame) (i : ℕ) (x : Frame) → i < length fs → x ≡ get_or fs i x → drop i fs ≡ x ∷ drop (i + 1) fs
@@ -120,15 +117,6 @@ then_parts rules target t e le = let n : ltb 4096 (parts t) ≡ false = le-ltb 4
 -- no fault
 pub faultless : (rules : Rules) (target : Target) (t : Tree) → is_row target ≡ true → parts t ≤ 4096 → part_fault rules target 0 t ≡ None → desc_fault rules target t ≡ None
 faultless rules target t e le none = then_parts rules target t e le ∙ none
-
--- the frame of what has no parts, made of its parts
-pub scalar_made : (t : Target) (c : Scalar) (made : Frame) (size : ℕ) → is_row t ≡ true → size ≡ scalar_size c → made.size ≡ size → made.align ≡ align_of t size → made.free ≡ []
-    → made.forbids ≡ scalar_items c → made.head ≡ scalar_head c → made.niches ≡ scalar_count c → made.indirections ≡ false
-    → IsLawful made × (made ≡ scalar_frame t c)
-unfolding scalar_frame
-scalar_made t c made size row q a b f d e h k =
-    let same : made ≡ scalar_frame t c = same_frame made (scalar_frame t c) (a ∙ q) (rw q at b) f d e h k in
-    (subst IsLawful (sym same) (scalar_lawful t c row), same)
 
 pub no_fields : (fs : List Frame) → length fs ≡ 0 → fs ≡ []
 no_fields [] e = refl

@@ -10,10 +10,15 @@ use Rattle.abi_det.specs.Offers.{One, offer_at, first_offer}
 use Rattle.abi_det.specs.Written.{written_placement, written_sum, refusals_below}
 use Rattle.abi_layout.specs.Builders.{after, pair, rounded_to, closed, closed_at, overlaid, repeated}
 use Rattle.abi_layout.specs.Structs.{struct_frame}
-use Rattle.abi_layout.specs.Prims.{scalar_frame, prim_frame}
-use Rattle.abi_layout.specs.Trees.{Tree, Label, prim, struct, result, option, none, field}
+use Rattle.abi_layout.specs.Prims.{row_frame, prim_frame}
+use Rattle.abi_layout.specs.Leaves.{leaf_frame}
+use Rattle.abi_layout.specs.Trees.{Tree, Label, prim, struct, array, union, sides, result, option, core_option, wrap, stable_if, pointer, no_niches, leaf, none, field}
 use Rattle.abi_layout.specs.Frames.{written_frame}
 use Rattle.abi_layout.specs.Faults.{desc_fault}
+use Rattle.abi_layout.specs.declared.desc.Forbid.TheVariants as forbid
+use Rattle.abi_layout.specs.declared.desc.PointerKind.TheVariants as pointers
+use Rattle.abi_layout.specs.declared.desc.WrapKind.TheVariants as wrapper
+use Rattle.abi_layout.specs.declared.prim.IntKind.TheVariants as kind
 use Rattle.abi_layout.specs.declared.prim.Primitive.{Primitive}
 use Rattle.abi_layout.specs.declared.prim.Primitive.TheVariants as the
 use Rattle.abi_layout.specs.declared.desc_error.DescError.TheVariants as fault
@@ -97,26 +102,54 @@ not_zero n offsets = record { size = n; align = n; forbids = pattern (map (λ at
 
 empty_and_truth : map row (the.Unit ∷ the.Bool ∷ [])
     ≡ record { size = 0; align = 1; forbids = []; niches = count.B0 } ∷ record { size = 1; align = 1; forbids = range 0 2 255 ∷ []; niches = count.Saturator } ∷ []
-unfolding row scalar_frame le64
+unfolding row row_frame le64
 empty_and_truth = refl
 
 unsigned_integers : map row (the.U8 ∷ the.U16 ∷ the.U32 ∷ the.U64 ∷ the.U128 ∷ []) ≡ map whole (1 ∷ 2 ∷ 4 ∷ 8 ∷ 16 ∷ [])
-unfolding row whole scalar_frame le64
+unfolding row whole row_frame le64
 unsigned_integers = refl
 
 signed_integers : map row (the.I8 ∷ the.I16 ∷ the.I32 ∷ the.I64 ∷ the.I128 ∷ []) ≡ map whole (1 ∷ 2 ∷ 4 ∷ 8 ∷ 16 ∷ [])
-unfolding row whole scalar_frame le64
+unfolding row whole row_frame le64
 signed_integers = refl
 
 integers_but_zero : map row (the.NonZeroU8 ∷ the.NonZeroU16 ∷ the.NonZeroU32 ∷ the.NonZeroU64 ∷ the.NonZeroU128 ∷ [])
     ≡ not_zero 1 (0 ∷ []) ∷ not_zero 2 (0 ∷ 1 ∷ []) ∷ not_zero 4 (0 ∷ 1 ∷ 2 ∷ 3 ∷ []) ∷ not_zero 8 (0 ∷ 1 ∷ 2 ∷ 3 ∷ 4 ∷ 5 ∷ 6 ∷ 7 ∷ [])
     ∷ not_zero 16 (0 ∷ 1 ∷ 2 ∷ 3 ∷ 4 ∷ 5 ∷ 6 ∷ 7 ∷ 8 ∷ 9 ∷ 10 ∷ 11 ∷ 12 ∷ 13 ∷ 14 ∷ 15 ∷ []) ∷ []
-unfolding row not_zero scalar_frame le64
+unfolding row not_zero row_frame le64
 integers_but_zero = refl
 
 old_word : prim_frame le32o the.U64 ≡ plain 8 4
-unfolding scalar_frame plain le32o
+unfolding row_frame plain le32o
 old_word = refl
+
+le16 : Target
+le16 = record { little = true; pointer = 2; u64_align = 4; u128_align = 8 }
+
+word_of_two_bytes : prim_frame le16 the.Usize ≡ plain 2 2
+unfolding row_frame plain le16
+word_of_two_bytes = refl
+
+wide_word : prim_frame le16 the.U128 ≡ plain 16 8
+unfolding row_frame plain le16
+wide_word = refl
+
+-- threads share it only at its own size
+shared_word : prim_frame le32o the.AtomicU64 ≡ plain 8 8
+unfolding row_frame plain le32o
+shared_word = refl
+
+but_the_greatest : prim_frame le64 the.NonMaxU8 ≡ non_zero_byte
+unfolding row_frame non_zero_byte le64
+but_the_greatest = refl
+
+order : row the.Ordering ≡ record { size = 1; align = 1; forbids = range 0 2 254 ∷ []; niches = count.Saturator }
+unfolding row row_frame le64
+order = refl
+
+descriptor : prim_frame le64 the.OwnedFd ≡ record (plain 4 4) { niches = count.Saturator; indirections = true }
+unfolding row_frame plain le64
+descriptor = refl
 
 one_niche : pair (plain 1 1) non_zero_byte
     ≡ record { size = 2; align = 1; free = []; forbids = pattern ((1, 0) ∷ []) ∷ []; head = None; niches = count.B1; indirections = false }
@@ -141,19 +174,93 @@ pair_tree = struct label (field [] (prim the.U8) (field [] (prim the.NonZeroU16)
 
 byte_and_word : written_frame One le64 pair_tree
     ≡ record { size = 4; align = 2; free = (1, 255) ∷ []; forbids = pattern ((2, 0) ∷ (3, 0) ∷ []) ∷ []; head = None; niches = count.Saturator; indirections = false }
-unfolding struct_frame scalar_frame entries_below pair_tree le64 label
+unfolding struct_frame row_frame entries_below pair_tree le64 label
 byte_and_word = refl
 
 tagged_bytes : written_frame One le64 (result (result (prim the.U8) (prim the.U8)) (prim the.U8))
     ≡ record (plain 2 1) { free = (0, 252) ∷ [] }
-unfolding written_sum written_placement first_offer offer_at entries_below refusals_below scalar_frame plain le64 lib.Count.count_trailing_zeros
+unfolding written_sum written_placement first_offer offer_at entries_below refusals_below row_frame plain le64 lib.Count.count_trailing_zeros
 tagged_bytes = refl
 
 -- the second field's request is refused: it is part 3, after the three parts before it
 ill_formed : desc_fault One le64 (struct label (field [] (option (prim the.Bool)) (field [] (struct label (field [] (prim the.U8) none) (Some 3)) none)) None)
     ≡ Some (fault.IllFormed 3)
-unfolding desc_fault label written_sum written_placement first_offer offer_at entries_below refusals_below scalar_frame le64 lib.Count.ones
+unfolding desc_fault label written_sum written_placement first_offer offer_at entries_below refusals_below row_frame le64 lib.Count.ones
 ill_formed = refl
+
+-- ---- arrays, unions, sums of the compiler, pointers, conditions
+
+few_bools : map (λ n. written_frame One le64 (array (prim the.Bool) n)) (1 ∷ 2 ∷ [])
+    ≡ bool_frame ∷ record (plain 2 1) { niches = count.Saturator } ∷ []
+unfolding repeated row_frame bool_frame plain le64
+few_bools = refl
+
+bytes : ℕ → Tree
+bytes n = array (prim the.U8) n
+
+long_array : map (λ n. desc_fault One le64 (bytes n)) (128 ∷ 129 ∷ []) ≡ None ∷ Some (fault.ArrayLength 1) ∷ []
+unfolding desc_fault bytes repeated row_frame le64
+long_array = refl
+
+-- 2^14 bytes in the item: 64 of them make 2^20 bytes, 128 twice as many
+large_array : map (λ n. desc_fault One le64 (array (array (bytes 128) 128) n)) (64 ∷ 128 ∷ []) ≡ None ∷ Some (fault.TooLarge 3) ∷ []
+unfolding desc_fault bytes repeated row_frame le64
+large_array = refl
+
+truth_or_word : written_frame One le64 (union (sides (prim the.Bool) (prim the.U32))) ≡ plain 4 4
+unfolding overlaid row_frame plain le64
+truth_or_word = refl
+
+none_is_zero : written_frame One le64 (core_option (prim the.NonZeroU8)) ≡ plain 1 1
+unfolding row_frame plain le64
+none_is_zero = refl
+
+-- one niche, and a pattern: what the compiler needs
+stable_options : map (λ t. desc_fault One le64 (core_option t)) (prim the.NonZeroU8 ∷ prim the.Bool ∷ no_niches 1 1 count.B1 false ∷ [])
+    ≡ None ∷ Some (fault.NotStable 1) ∷ Some (fault.NotStable 1) ∷ []
+unfolding desc_fault row_frame le64 lib.Count.ones
+stable_options = refl
+
+-- the count of both is one, but the second forbids 0 still
+two_patterns : desc_fault One le64 (core_option (struct label (field [] (prim the.NonZeroU8) (field [] (wrap wrapper.MaybeUninit (prim the.NonZeroU8)) none)) None))
+    ≡ Some (fault.NotStable 4)
+unfolding desc_fault label struct_frame entries_below row_frame le64
+two_patterns = refl
+
+-- whatever it points to
+reference : written_frame One le16 (pointer pointers.Ref (bytes 128))
+    ≡ record { size = 2; align = 2; free = []; forbids = pattern ((0, 0) ∷ (1, 0) ∷ []) ∷ []; head = Some ((0, 0) ∷ (1, 0) ∷ []); niches = count.B1; indirections = true }
+unfolding bytes row_frame le16
+reference = refl
+
+raw_pointer : written_frame One le64 (pointer pointers.ConstPtr (prim the.Bool)) ≡ record (plain 8 8) { indirections = true }
+unfolding row_frame plain le64
+raw_pointer = refl
+
+-- what holds no bytes must be well-formed too: the pointee is part 1, the condition the part after the value
+ill_formed_aside : desc_fault One le64 (pointer pointers.Ref (bytes 129)) ∷ desc_fault One le64 (stable_if (prim the.U8) (bytes 129)) ∷ []
+    ≡ Some (fault.ArrayLength 1) ∷ Some (fault.ArrayLength 2) ∷ []
+unfolding desc_fault bytes repeated row_frame le64
+ill_formed_aside = refl
+
+-- an integer of 8 bits is never 256
+no_such_number : desc_fault One le64 (prim (the.NonX kind.U8 256 false)) ≡ Some (fault.IllFormed 0)
+unfolding desc_fault row_frame le64
+no_such_number = refl
+
+-- byte 0 has a free bit
+pattern_in_a_free_byte : desc_fault One le64 (leaf (record {
+  name = [];
+  «module» = [];
+  size = 2;
+  align = 1;
+  free = (0, 1) ∷ [];
+  forbidden = forbid.Pattern ((0, 5) ∷ []) ∷ [];
+  niches = count.B1;
+  indirections = false;
+})) ≡ Some (fault.IllFormed 0)
+unfolding desc_fault leaf_frame le64 lib.Count.ones
+pattern_in_a_free_byte = refl
 
 bad_target : desc_fault One (record { little = true; pointer = 3; u64_align = 8; u128_align = 16 }) (prim the.U8) ≡ Some fault.BadTarget
 unfolding desc_fault

@@ -1,8 +1,11 @@
 pub mod Builders
+pub mod CoreSums
 pub mod Faults
 pub mod Folds
+pub mod Forms
 pub mod Frames
 pub mod Laws
+pub mod Leaves
 pub mod Prims
 pub mod Structs
 pub mod Trees
@@ -10,3 +13,5 @@ pub mod Shape
 pub mod Plans
 pub mod Sums
 pub mod PartView
+pub mod Names
+pub mod ReportsOf

@@ -1,7 +1,8 @@
 -- Parts of a plan as plain data.
 use Rattle.std.specs.Prelude.{ℕ, List, [], ◌∷◌, map}
+use Rattle.abi_bits.specs.Forbidden.{items}
 use Rattle.abi_layout.specs.Trees.{sides}
-use Rattle.abi_layout.specs.Shape.{Shape, Shapes, scalar, fields, sum, last, field, repeated}
+use Rattle.abi_layout.specs.Shape.{Shape, Shapes, scalar, raw, atom, fields, sum, last, field, repeated}
 use Rattle.abi_layout.specs.declared.part.Compound.TheVariants as compound
 use Rattle.abi_layout.specs.declared.part.PartField.{PartField}
 use Rattle.abi_layout.specs.declared.part.Part.{Part, fold-Part}
@@ -19,7 +20,8 @@ abbrev pub field_step : PartField-F Shape Behind → Behind
 field_step f = (f.gap, f.part)
 
 abbrev pub part_step : Part-F Shape Behind → Shape
-part_step (Part-F.Scalar c) = scalar c
+part_step (Part-F.Scalar c) = atom (scalar c)
+part_step (Part-F.Raw n free forbidden) = atom (raw n free (items forbidden))
 part_step (Part-F.Struct fs n) = fields compound.Struct n (fields_of fs)
 part_step (Part-F.Array item len n) = fields compound.Array n (repeated len item.value)
 part_step (Part-F.Sum names ok err at) = sum names (sides ok.value err.value) at

@@ -160,7 +160,7 @@ fn niches_of_row(len: u64) -> SaturatingAddValue
 }
 
 /// The layout of bytes of which none is free or forbidden.
-fn bare(
+pub(crate) fn bare(
     alloc: Global,
     size: u64,
     align: u64,

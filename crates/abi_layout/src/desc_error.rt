@@ -14,6 +14,16 @@ pub enum DescError {
         /// The part's number.
         part: u32,
     },
+    /// The array has more than `MAX_LEN` items.
+    ArrayLength {
+        /// The part's number.
+        part: u32,
+    },
+    /// The sum is none that the compiler lays out in the same way everywhere.
+    NotStable {
+        /// The part's number.
+        part: u32,
+    },
     /// The part is larger than `MAX_SIZE`.
     TooLarge {
         /// The part's number.

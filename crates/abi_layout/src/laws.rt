@@ -1,4 +1,5 @@
 //! Laws over the definitions of layouts: each is the contract of a function that does nothing.
+ghost use Rattle.abi_layout.specs.ReportsOf.{IdentifierLaw, PlainLaw};
 ghost use Rattle.abi_layout.specs.Laws.{CauseLaw, FoldLaw, LawfulLaw, WellFormedLaw};
 
 /// Fields folded from the left and closed, at a requested alignment or their own, make the struct
@@ -23,4 +24,17 @@ pub fn faultless_is_well_formed()
 #[tactic(auto, using(crate::proofs::Causes::desc_cause))]
 pub fn faults_have_causes()
     ensures { CauseLaw }
+{}
+
+/// On one target, plain descriptions with equal reports have layouts that are equal in every
+/// component.
+#[tactic(auto, using(crate::proofs::PlainReports::plain_law))]
+pub fn equal_plain_reports_tell_equal_layouts()
+    ensures { PlainLaw }
+{}
+
+/// On one target, equal reports have equal identifiers.
+#[tactic(auto, using(crate::proofs::PlainReports::identifier_law))]
+pub fn equal_reports_have_equal_identifiers()
+    ensures { IdentifierLaw }
 {}

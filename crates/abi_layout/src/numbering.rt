@@ -1,4 +1,4 @@
-ghost use Rattle.std.specs.Prelude.{◌≡◌, ℕ, min};
+ghost use Rattle.std.specs.Prelude.{◌≡◌, ℕ, ◌+◌, ◌≤◌, min};
 ghost use Rattle.abi_layout.specs.Trees.{tree, branches, parts, parts_in};
 
 use crate::desc::{Desc, Field};
@@ -16,11 +16,27 @@ pub fn parts(desc: &Desc) -> u32
     ensures { result ≡ min TOO_MANY (parts (tree desc.now)) }
 {
     match desc {
-        Desc::Prim(_) => 1,
-        Desc::Struct { fields, .. } => (parts_in(fields.as_slice()) + 1).min(TOO_MANY),
-        Desc::Result { ok, err } => (parts(ok) + parts(err) + 1).min(TOO_MANY),
-        Desc::Option { some } => (parts(some) + 1).min(TOO_MANY),
+        Desc::Prim(_) | Desc::NoNiches { .. } | Desc::Leaf(_) => 1,
+        Desc::Struct { fields, .. } => with_whole(parts_in(fields.as_slice()), 0),
+        Desc::Array { item, .. } => with_whole(parts(item), 0),
+        Desc::Union { ok, err } => with_whole(parts(ok), parts(err)),
+        Desc::Result { ok, err } => with_whole(parts(ok), parts(err)),
+        Desc::Option { some } => with_whole(parts(some), 0),
+        Desc::CoreOption { some } => with_whole(parts(some), 0),
+        Desc::CoreResult { ok, err } => with_whole(parts(ok), parts(err)),
+        Desc::Wrap { inner, .. } => with_whole(parts(inner), 0),
+        Desc::StableIf { value, cond } => with_whole(parts(value), parts(cond)),
+        Desc::Pointer { pointee, .. } => with_whole(parts(pointee), 0),
     }
+}
+
+/// The parts of a whole: those in it, and the whole itself.
+fn with_whole(some: u32, others: u32) -> u32
+    requires some { some ≤ TOO_MANY }
+    requires others { others ≤ TOO_MANY }
+    ensures { result ≡ min TOO_MANY (some + others + 1) }
+{
+    (some + others + 1).min(TOO_MANY)
 }
 
 #[cycle(count)]

@@ -1,4 +1,5 @@
 use crate::scalar::Scalar;
+use abi_bits::{BitMask, ForbiddenValues};
 use abi_det::Determinant;
 use abi_num::Items;
 
@@ -8,6 +9,15 @@ use abi_num::Items;
 pub enum Part {
     /// A value without parts.
     Scalar(Scalar),
+    /// Bytes as they stand, but for free bits.
+    Raw {
+        /// How many.
+        size: u64,
+        /// The free bits.
+        free: BitMask,
+        /// What the bytes never are.
+        forbidden: ForbiddenValues,
+    },
     /// Fields one after another, each behind its gap.
     Struct {
         /// In order.

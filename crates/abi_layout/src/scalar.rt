@@ -8,6 +8,8 @@ pub enum Scalar {
     Unit,
     /// A byte that is 0 or 1.
     Bool,
+    /// A byte that is 255, 0 or 1, for less, equal or greater.
+    Order,
     /// An integer.
     Int(Integer),
 }
@@ -19,10 +21,28 @@ pub struct Integer {
     pub width: Width,
     /// Whether it may be negative.
     pub signed: bool,
-    /// Whether it may be 0.
+    /// Whether the bytes may all be 0.
     pub zero: bool,
     /// Whether the least significant byte comes first.
     pub little: bool,
+    /// What number stands in the bytes.
+    pub stored: Stored,
+}
+
+/// What number stands for an integer, of as many binary digits as its width has.
+#[derive(Debug, Clone, Copy, PartialEq, Eq)]
+pub enum Stored {
+    /// The integer itself.
+    Itself,
+    /// Its complement: every binary digit turned over.
+    Complement,
+    /// Its distance above another integer, counted around the width's end.
+    Distance {
+        /// How far the other integer lies from 0.
+        magnitude: u128,
+        /// Whether it lies below 0.
+        negative: bool,
+    },
 }
 
 /// The size of an integer, in bytes.
@@ -66,6 +86,7 @@ impl Scalar {
         match self {
             Scalar::Unit => 0,
             Scalar::Bool => 1,
+            Scalar::Order => 1,
             Scalar::Int(integer) => integer.width.bytes(),
         }
     }

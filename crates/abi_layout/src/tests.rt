@@ -4,9 +4,9 @@ ghost use Rattle.abi_layout.specs.Builders.{IsOpen};
 
 use crate::structs::end_after;
 use crate::{
-    Desc, DescError, Field, FieldDescs, Integer, Part, Prim, Scalar, Sort, Width, aligned_after,
-    aligned_struct, array_of, field_pair, lay_out, layout_of, parts, prim_layout, scalar_of,
-    struct_of, union_of,
+    Desc, DescError, Field, FieldDescs, Integer, Part, PointerKind, Prim, Scalar, Sort, Stored,
+    Width, aligned_after, aligned_struct, array_of, field_pair, lay_out, layout_of, parts,
+    prim_layout, row_of, struct_of, union_of,
 };
 use abi_bits::SaturatingAddValue;
 use abi_det::{Kind, Layout, RawLayout, Rules};
@@ -433,9 +433,7 @@ fn sum_told(part: &Part) -> Option<(Sort, u64, u64, u64)> {
             sum_layout,
             ..
         } => Some((*names, sum_layout.ok, sum_layout.err, sum_layout.size)),
-        Part::Scalar(_) => None,
-        Part::Struct { .. } => None,
-        Part::Array { .. } => None,
+        _ => None,
     }
 }
 
@@ -469,8 +467,73 @@ fn integers_stand_in_the_byte_order_of_the_target(rt: HostRuntime) -> Result<(),
             signed: true,
             zero: true,
             little,
+            stored: Stored::Itself,
         };
-        assert!(rt; scalar_of(&target, Prim::I32) == Scalar::Int(word));
+        assert!(rt; row_of(&target, Prim::I32.form()).scalar == Scalar::Int(word));
     }
+    Ok(())
+}
+
+fn array_desc(alloc: Global, item: Desc, len: u64) -> Result<Desc, Fail> {
+    let item = Box::new(alloc, item)?;
+    Ok(Desc::Array { item, len })
+}
+
+/// A byte behind a condition that has two parts.
+fn conditional(alloc: Global, len: u64) -> Result<Desc, Fail> {
+    let value = Box::new(alloc, Desc::Prim(Prim::U8))?;
+    let cond = Box::new(alloc, array_desc(alloc, Desc::Prim(Prim::Bool), len)?)?;
+    Ok(Desc::StableIf { value, cond })
+}
+
+fn reference(alloc: Global, pointee: Desc) -> Result<Desc, Fail> {
+    Ok(Desc::Pointer {
+        kind: PointerKind::Ref,
+        pointee: Box::new(alloc, pointee)?,
+    })
+}
+
+#[test]
+fn conditions_and_pointees_are_numbered_and_hold_no_bytes(rt: HostRuntime) -> Result<(), Fail> {
+    let alloc = rt.alloc();
+    let mut fields = Items::new(alloc);
+    // Parts 0 to 3: the byte, the condition's item, the condition, the whole.
+    add_field(alloc, &mut fields, conditional(alloc, 9)?)?;
+    // Parts 4 to 6: a truth value, an option of it, a pointer to that.
+    let inner = option_desc(alloc, Desc::Prim(Prim::Bool))?;
+    add_field(alloc, &mut fields, reference(alloc, inner)?)?;
+    // Parts 7 and 8: a truth value, and the option of it.
+    add_field(
+        alloc,
+        &mut fields,
+        option_desc(alloc, Desc::Prim(Prim::Bool))?,
+    )?;
+    let whole = struct_desc(alloc, fields, None)?;
+    let found = lay_out(alloc, Rules::One, &le64(), &whole)?;
+    // A byte, 7 bytes before the pointer, the pointer's 8, the option's 1, 7 bytes more.
+    assert!(rt; found.layout.size() == 24);
+    assert!(rt; found.layout.indirections());
+    let placed = found.placed.as_slice();
+    assert!(rt; placed.len() == 1);
+    assert!(rt; placed[0].part == 8);
+    Ok(())
+}
+
+#[test]
+fn faults_of_conditions_and_pointees_are_found(rt: HostRuntime) -> Result<(), Fail> {
+    let alloc = rt.alloc();
+    let long = conditional(alloc, 129)?;
+    assert!(rt; layout_of(alloc, &le64(), &long).err() == Some(DescError::ArrayLength { part: 2 }));
+    let to_long = reference(alloc, long)?;
+    assert!(rt;
+        layout_of(alloc, &le64(), &to_long).err() == Some(DescError::ArrayLength { part: 2 })
+    );
+    let core = Desc::CoreOption {
+        some: Box::new(alloc, Desc::Prim(Prim::Bool))?,
+    };
+    let to_core = reference(alloc, core)?;
+    assert!(rt;
+        layout_of(alloc, &le64(), &to_core).err() == Some(DescError::NotStable { part: 1 })
+    );
     Ok(())
 }

@@ -5,7 +5,6 @@ ghost use Rattle.abi_layout.specs.Builders.{start_after};
 ghost use Rattle.abi_layout.specs.Faults.{IsFault, part_fault, part_fault_in, struct_fault, sum_fault};
 ghost use Rattle.abi_layout.specs.Folds.{AreLawful};
 ghost use Rattle.abi_layout.specs.Frames.{written_frame, written_frames};
-ghost use Rattle.abi_layout.specs.Prims.{scalar_frame};
 ghost use Rattle.abi_layout.specs.Structs.{struct_frame};
 ghost use Rattle.abi_layout.specs.Trees.{tree, branches, sides, parts, parts_in};
 ghost use Rattle.abi_layout.specs.Plans.{sum_layout_at, sum_layout_of, shape_of, shapes_of, is_second, IsNamed, AreNamed};
@@ -13,29 +12,22 @@ ghost use Rattle.abi_layout.specs.Shape.{scalar as scalar_shape, fields as field
 ghost use Rattle.abi_layout.specs.Sums.{numbered_placement, written_sums, written_sums_in};
 ghost use Rattle.abi_layout.specs.PartView.{shape, shapes};
 
+use crate::arrays::lay_out_array;
+use crate::core_sums::lay_out_core;
 use crate::desc::{Desc, Field};
 use crate::desc_error::DescError;
+use crate::laid_part::LaidPart;
 use crate::numbering::MAX_PARTS;
-use crate::part::{Compound, Part, PartField, PartFields, Sort, SumLayout};
+use crate::opaque::{lay_out_bytes, lay_out_leaf, lay_out_union};
+use crate::packed_sums::lay_out_sum;
+use crate::part::{Compound, Part, PartField, PartFields, Sort};
 use crate::placed::Placed;
-use crate::primitives::{scalar_layout, scalar_of};
-use crate::scalar::Scalar;
+use crate::primitives::{lay_out_prim, unit_part};
 use crate::structs::struct_layout;
-use crate::sums::packed_sum;
-use abi_det::{Layout, Placement, Rules};
+use crate::wrappers::{lay_out_conditional, lay_out_pointer, lay_out_wrapper};
+use abi_det::{Layout, Rules};
 use abi_num::{Items, MAX_ALIGN, OutOfMemory, Target};
 use std::alloc::Global;
-
-/// A part of a description, laid out.
-#[derive(Drop)]
-pub(crate) struct LaidPart {
-    /// What its bytes mean.
-    pub part: Part,
-    /// Its layout.
-    pub layout: Layout,
-    /// The number after that of the part.
-    pub next: u32,
-}
 
 /// The fields of a struct, laid out.
 #[derive(Drop)]
@@ -73,13 +65,23 @@ pub(crate) fn lay_out_part(
 {
     match desc {
         Desc::Prim(prim) => {
-            let found = scalar_part(alloc, target, scalar_of(target, *prim), first + 1)?;
+            let found = lay_out_prim(alloc, target, first, *prim)?;
             Ok(found)
         }
         Desc::Struct { fields, align, .. } => {
             let fields = lay_out_fields(alloc, rules, target, first, fields.as_slice(), sums)?;
             let found = lay_out_struct(alloc, fields, *align)?;
             Ok(found)
+        }
+        Desc::Array { item, len } => {
+            let item = lay_out_part(alloc, rules, target, first, item, sums)?;
+            let found = lay_out_array(alloc, item, *len)?;
+            Ok(found)
+        }
+        Desc::Union { ok, err } => {
+            let ok = lay_out_part(alloc, rules, target, first, ok, sums)?;
+            let err = lay_out_part(alloc, rules, target, ok.next, err, sums)?;
+            Ok(lay_out_union(alloc, ok, err))
         }
         Desc::Result { ok, err } => {
             let at = sums.len();
@@ -91,31 +93,71 @@ pub(crate) fn lay_out_part(
         Desc::Option { some } => {
             let at = sums.len();
             let some = lay_out_part(alloc, rules, target, first, some, sums)?;
-            let none = scalar_part(alloc, target, Scalar::Unit, some.next)?;
+            let none = unit_part(alloc, target, some.next)?;
             let found = lay_out_sum(alloc, rules, Sort::OfOption, some, none, at, sums)?;
+            Ok(found)
+        }
+        Desc::CoreOption { some } => {
+            let some = lay_out_part(alloc, rules, target, first, some, sums)?;
+            let none = unit_part(alloc, target, some.next)?;
+            let found = lay_out_core(alloc, Sort::OfOption, some, none)?;
+            Ok(found)
+        }
+        Desc::CoreResult { ok, err } => {
+            let ok = lay_out_part(alloc, rules, target, first, ok, sums)?;
+            let err = lay_out_part(alloc, rules, target, ok.next, err, sums)?;
+            let found = lay_out_core(alloc, Sort::OfResult, ok, err)?;
+            Ok(found)
+        }
+        Desc::Wrap { kind, inner } => {
+            let inner = lay_out_part(alloc, rules, target, first, inner, sums)?;
+            Ok(lay_out_wrapper(*kind, inner))
+        }
+        Desc::StableIf { value, cond } => {
+            let value = lay_out_part(alloc, rules, target, first, value, sums)?;
+            let part = lay_out_aside(alloc, rules, target, value.next, cond)?;
+            Ok(lay_out_conditional(value, part))
+        }
+        Desc::Pointer { kind, pointee } => {
+            let part = lay_out_aside(alloc, rules, target, first, pointee)?;
+            let found = lay_out_pointer(alloc, target, part, *kind)?;
+            Ok(found)
+        }
+        Desc::NoNiches {
+            size,
+            align,
+            niches,
+            indirections,
+        } => {
+            let found = lay_out_bytes(alloc, first, *size, *align, *niches, *indirections)?;
+            Ok(found)
+        }
+        Desc::Leaf(leaf) => {
+            let found = lay_out_leaf(alloc, first, leaf)?;
             Ok(found)
         }
     }
 }
 
-/// A part that stands so in its bytes; `next` is the number after it.
-fn scalar_part(
+/// The number after the last part of a description that holds no bytes, as a pointee or a
+/// condition. Refused as `lay_out_part` is.
+#[cycle(walk)]
+fn lay_out_aside(
     alloc: Global,
+    rules: Rules,
     target: &Target,
-    scalar: Scalar,
-    next: u32,
-) -> Result<LaidPart, OutOfMemory>
-    requires { IsTrue (is_row target.now) }
-    ensures part { IfOk result (λ f. shape f.part ≡ scalar_shape scalar) }
-    ensures layout { IfOk result (λ f. f.layout ≡ scalar_frame target.now scalar) }
-    ensures next { IfOk result (λ f. f.next ≡ next) }
+    first: u32,
+    desc: &Desc,
+) -> Result<u32, DescError>
+    requires row { IsTrue (is_row target.now) }
+    requires room { first + parts (tree desc.now) ≤ MAX_PARTS }
+    ensures faultless { IfOk result (λ _. part_fault rules target.now first (tree desc.now) ≡ None) }
+    ensures next { IfOk result (λ next. next ≡ first + parts (tree desc.now)) }
+    ensures err { IfErr result (IsFault (part_fault rules target.now first (tree desc.now))) }
 {
-    let layout = scalar_layout(alloc, target, scalar)?;
-    Ok(LaidPart {
-        part: Part::Scalar(scalar),
-        layout,
-        next,
-    })
+    let mut sums = Vec::new(alloc);
+    let found = lay_out_part(alloc, rules, target, first, desc, &mut sums)?;
+    Ok(found.next)
 }
 
 /// Lays out the fields of a struct as `lay_out_part` does a description.
@@ -204,109 +246,5 @@ fn lay_out_struct(
         },
         layout,
         next: fields.next + 1,
-    })
-}
-
-/// Lays out the packed sum of two parts, whose number is the one after the second's, and puts it
-/// among `sums` at the index `at`. Refused with the fault of the sum itself.
-#[tactic(auto, using(crate::proofs::Walking::sum_layout_made, crate::proofs::Steps::no_memory))]
-fn lay_out_sum(
-    alloc: Global,
-    rules: Rules,
-    names: Sort,
-    ok: LaidPart,
-    err: LaidPart,
-    at: usize,
-    sums: &mut Vec<Placed>,
-) -> Result<LaidPart, DescError>
-    requires ok { IsNamed (shape ok.part) }
-    requires err { IsNamed (shape err.part) }
-    requires second { is_second names (shape err.part) ≡ true }
-    requires room { err.next < MAX_PARTS }
-    requires index { at ≤ vec_len sums.old }
-    ensures faultless { IfOk result (λ _. sum_fault rules err.next ok.layout err.layout ≡ None) }
-    ensures part { IfOk result (λ f. shape f.part
-        ≡ sum names (sides (shape ok.part) (shape err.part)) (sum_layout_of rules ok.layout err.layout)) }
-    ensures named { IfOk result (λ f. IsNamed (shape f.part)) }
-    ensures layout { IfOk result (λ f. f.layout ≡ written_sum rules ok.layout err.layout) }
-    ensures next { IfOk result (λ f. f.next ≡ err.next + 1) }
-    ensures sums { OnOk result (sums.new.items
-        ≡ insert sums.old.items at
-        (numbered_placement err.next (written_placement rules ok.layout err.layout))) }
-    ensures err { IfErr result (IsFault (sum_fault rules err.next ok.layout err.layout)) }
-{
-    let number = err.next;
-    let (placement, layout) = packed_sum(alloc, rules, number, &ok.layout, &err.layout)?;
-    let (sum_layout, placed) = taken_apart(alloc, number, layout.size(), placement)?;
-    insert(sums, at, placed)?;
-    let part = sum_part(alloc, names, ok.part, err.part, sum_layout)?;
-    Ok(LaidPart {
-        part,
-        layout,
-        next: number + 1,
-    })
-}
-
-/// What the placement of the sum with that number tells the plan of its part, and what it tells the
-/// list of sums. The sum has `size` bytes.
-fn taken_apart(
-    alloc: Global,
-    number: u32,
-    size: u64,
-    placement: Placement,
-) -> Result<(SumLayout, Placed), OutOfMemory>
-    requires ok { placement.front + placement.ok_shift < 2 ^ 64 }
-    requires err { placement.front + placement.err_shift < 2 ^ 64 }
-    ensures sum_layout { IfOk result (λ f. f.0 ≡ sum_layout_at size placement) }
-    ensures placed { IfOk result (λ f. f.1 ≡ numbered_placement number placement) }
-{
-    let determinant = placement.determinant.copy(alloc)?;
-    let sum_layout = SumLayout {
-        ok: placement.front + placement.ok_shift,
-        err: placement.front + placement.err_shift,
-        size,
-        determinant,
-    };
-    let placed = Placed {
-        part: number,
-        place: placement.place,
-        front: placement.front,
-        ok_shift: placement.ok_shift,
-        err_shift: placement.err_shift,
-        kind: placement.kind,
-        determinant: placement.determinant,
-        refusals: placement.refusals,
-    };
-    Ok((sum_layout, placed))
-}
-
-/// Puts a sum among others, at that index.
-fn insert(sums: &mut Vec<Placed>, at: usize, placed: Placed) -> Result<(), OutOfMemory>
-    requires { at ≤ vec_len sums.old }
-    ensures { OnOk result (sums.new.items ≡ insert sums.old.items at placed) }
-{
-    match sums.insert(at, placed) {
-        Ok(()) => Ok(()),
-        Err(_) => Err(OutOfMemory),
-    }
-}
-
-/// The part of a sum of two.
-fn sum_part(
-    alloc: Global,
-    names: Sort,
-    ok: Part,
-    err: Part,
-    sum_layout: SumLayout,
-) -> Result<Part, OutOfMemory>
-    ensures { IfOk result (λ part. shape part ≡ sum names (sides (shape ok) (shape err)) sum_layout) }
-{
-    let ok = Box::new(alloc, ok)?;
-    let err = Box::new(alloc, err)?;
-    Ok(Part::Sum {
-        names,
-        ok,
-        err,
-        sum_layout,
     })
 }

@@ -1,22 +1,20 @@
 -- Which bits decide what bytes show: those that the value holds, and no others.
-use Rattle.std.specs.Prelude.{nat_lt}
 use Rattle.std.specs.Int.{bit_at}
-use Rattle.std.proofs.Common.{◌≡◌, ℕ, ◌+◌, ◌-◌, ◌<◌, ◌≤◌, ◌⊎◌, inl, inr, Bool, true, false, ◌||◌, ap, ◌∙◌, sym, arith}
-use Rattle.std.proofs.lemmas.Bool.Decides.{nat_tests}
+use Rattle.std.proofs.Common.{◌≡◌, ℕ, ◌+◌, ◌-◌, ◌<◌, ◌≤◌, ◌⊎◌, inl, inr, Bool, true, false, ◌||◌, ◌∙◌, sym, arith}
 use Rattle.abi_det.specs.State.{test_holds, is_state_ok}
 use Rattle.abi_det.specs.SoundPlacement.{is_imposed, IsTest}
 use Rattle.abi_det.specs.declared.determinant.Test.{Test}
 use Rattle.abi_det.specs.declared.determinant.Test.TheVariants as test
 use Rattle.abi_pack.specs.Agree.{Agree}
 use Rattle.abi_pack.specs.ByteMap.{ByteMap, AreBytes, seen_from}
-use Rattle.abi_layout.specs.Prims.{scalar_size}
 use Rattle.abi_pack.specs.Plain.{Plain, Plains, list, variant, end, more}
-use Rattle.abi_layout.specs.Shape.{Shape, Shapes, scalar, fields, sum, last, field, size, size_in}
+use Rattle.abi_layout.specs.Shape.{Shape, Shapes, atom, fields, sum, last, field, size, size_in}
 use Rattle.abi_pack.specs.Shows.{Shows, ShowIn, holds, holds_in, held_at, start_of, sign_of, holds_test}
 use Rattle.abi_pack.specs.Consistent.{IsConsistent, AreConsistent, IsSide}
 use Rattle.abi_layout.specs.declared.part.SumLayout.{SumLayout}
+use Rattle.abi_pack.proofs.Atoms.{atom_agree, atom_same}
 use Rattle.abi_pack.proofs.Choice.{in_gap, in_field, behind_field, three_places, and_first, and_second, and_both, either_way, or_left, or_right, two_truths}
-use Rattle.abi_pack.proofs.Truths.{same_byte, state_sign, sign_state, keeps, tested_same}
+use Rattle.abi_pack.proofs.Truths.{state_sign, sign_state, keeps, tested_same}
 
 -- the bits that a value of a variant holds
 abbrev pub side_holds : Shape → Plain → Bool → SumLayout → ℕ → ℕ → Bool
@@ -57,10 +55,6 @@ variant_agree s v first at f g is tested fb gb same state shown =
     (or_right (held_at (start_of at first) (size s) (λ j l. holds s v j l) i k) _ (and_both (is_imposed at.determinant.test (sign_of at first)) _ imposed own)))
     (missing s v first at g is shown))
 
-scalar_agree : (n : ℕ) (f g : ByteMap) → AreBytes f → AreBytes g → Agree (λ i k. nat_lt i n) n f g → (i : ℕ) → i < n → f i ≡ g i
-scalar_agree n f g fb gb same i low =
-    let held : nat_lt i n ≡ true = grind (arith, nat_tests) in same_byte (f i) (g i) (fb i) (gb i) (λ k small. same i k low small held)
-
 first_agree : (gap : ℕ) (s : Shape) (fs : Shapes) (v : Plain) (vs : Plains) (f g : ByteMap)
     → Agree (λ i k. holds_in (field gap s fs) (more v vs) i k) (size_in (field gap s fs)) f g
     → Agree (λ i k. holds s v i k) (size s) (seen_from gap f) (seen_from gap g)
@@ -88,8 +82,7 @@ within_whole n m held f g le same i k low small h = same i k (omega arith) small
 mutual
   pub agree : (s : Shape) (v : Plain) (f g : ByteMap) → IsConsistent s → AreBytes f → AreBytes g
       → Agree (λ i k. holds s v i k) (size s) f g → Shows s v f → Shows s v g
-  agree (scalar c) v f g sound fb gb same h =
-      record { value = h.value; same = λ i low. sym (scalar_agree (scalar_size c) f g fb gb same i low) ∙ h.same i low }
+  agree (atom a) v f g sound fb gb same h = atom_agree a v f g sound fb gb same h
   agree (fields compound n fs) (list vs) f g sound fb gb same h =
       agree_in fs vs f g sound.0 fb gb (within_whole n (size_in fs) (λ i k. holds_in fs vs i k) f g sound.1 same) h
   agree (sum names side at) (variant kind first v) f g sound fb gb same h =
@@ -133,7 +126,7 @@ variant_same s v first at f g tested same hf hg i k small held =
 
 mutual
   pub same_held : (s : Shape) (v : Plain) (f g : ByteMap) → IsConsistent s → Shows s v f → Shows s v g → Agree (λ i k. holds s v i k) (size s) f g
-  same_held (scalar c) v f g sound hf hg i k low small held = ap (λ x. bit_at x k) (hf.same i low ∙ sym (hg.same i low))
+  same_held (atom a) v f g sound hf hg i k low small held = atom_same a v f g sound hf hg i k low small held
   same_held (fields compound n fs) (list vs) f g sound hf hg i k low small held = same_held_in fs vs f g sound.0 hf hg i k small held
   same_held (sum names side at) (variant kind first v) f g sound hf hg i k low small held =
       variant_same (side first) v first at f g sound.1.tested

@@ -1,23 +1,19 @@
 -- What is written shows the value, and every bit that the value does not hold is 0.
-use Rattle.std.specs.Prelude.{nat_lt}
 use Rattle.std.specs.Int.{bit_at}
 use Rattle.std.proofs.Common.{◌≡◌, ℕ, ◌+◌, ◌-◌, ◌<◌, ◌≤◌, ◌⊎◌, inl, inr, List, ◌++◌, length, get_or, Bool, true, false, ◌&&◌, refl, ap, ◌∙◌, sym, arith, lit<}
-use Rattle.std.proofs.lemmas.Bool.Decides.{nat_tests}
 use Rattle.std.proofs.lemmas.Nat.Bits.{bit_at-zero}
 use Rattle.abi_det.specs.State.{test_holds, is_tested, is_state_ok, imposed}
 use Rattle.abi_det.specs.SoundPlacement.{is_imposed, IsTest}
 use Rattle.abi_pack.specs.ByteMap.{ByteMap, AreBytes, seen_from, bytes_of}
-use Rattle.abi_layout.specs.Prims.{scalar_size}
-use Rattle.abi_pack.specs.Scalars.{stored}
 use Rattle.abi_pack.specs.Packed.{zeros, zero_padded, packed, packed_in}
 use Rattle.abi_pack.specs.Plain.{Plain, Plains, list, variant, end, more}
-use Rattle.abi_layout.specs.Shape.{Shape, Shapes, scalar, fields, sum, last, field, size, size_in}
+use Rattle.abi_layout.specs.Shape.{Shape, Shapes, atom, fields, sum, last, field, size, size_in}
 use Rattle.abi_pack.specs.Shows.{Shows, ShowIn, fits, fits_in, same_sort, holds, holds_in, held_at, start_of, sign_of, holds_test, IsCanonical}
 use Rattle.abi_pack.specs.Consistent.{IsConsistent, AreConsistent, IsSide}
 use Rattle.abi_layout.specs.declared.part.SumLayout.{SumLayout}
+use Rattle.abi_pack.proofs.Atoms.{atom_length, atom_small, atom_canonical, atom_clear}
 use Rattle.abi_pack.proofs.Choice.{in_field, behind_field, three_places, and_first, and_second, neither_first, neither_second, two_truths}
 use Rattle.abi_pack.proofs.Numbers.{AllBytes}
-use Rattle.abi_pack.proofs.Stored.{stored_length, stored_small}
 use Rattle.abi_pack.proofs.Agreed.{agree, agree_in, missing, side_holds, held_there}
 use Rattle.abi_pack.proofs.Truths.{sign_state}
 use Rattle.abi_pack.proofs.Lists.{zeros_length, zeros_at, before_part, in_part, behind_part, parts_length}
@@ -158,7 +154,7 @@ whole_length gap n m b c lb lc le = parts_length gap m (n - (gap + m)) b c lb lc
 
 mutual
   pub packed_length : (s : Shape) (v : Plain) → IsConsistent s → fits s v ≡ true → length (packed s v) ≡ size s
-  packed_length (scalar c) v sound fit = stored_length c v fit
+  packed_length (atom a) v sound fit = atom_length a v fit
   packed_length (fields compound n fs) (list vs) sound fit = packed_in_length n fs vs sound.0 sound.1 fit
   packed_length (sum names side at) (variant kind first v) sound fit =
       imposed_length at.determinant.test (sign_of at first) (zero_padded at.size (start_of at first) (size (side first)) (packed (side first) v))
@@ -176,7 +172,7 @@ mutual
 
 mutual
   pub packed_small : (s : Shape) (v : Plain) → IsConsistent s → fits s v ≡ true → AllBytes (packed s v)
-  packed_small (scalar c) v sound fit i = stored_small c v fit i
+  packed_small (atom a) v sound fit i = atom_small a v fit i
   packed_small (fields compound n fs) (list vs) sound fit i = packed_in_small n fs vs sound.0 fit i
   packed_small (sum names side at) (variant kind first v) sound fit i =
       let fit_ : fits (side first) v ≡ true = and_second (same_sort names kind) _ fit in
@@ -195,9 +191,6 @@ mutual
 pub record AreCanonical (n : ℕ) (fs : Shapes) (vs : Plains) (f : ByteMap) : Type 0 where
   pub shows : ShowIn fs vs f
   pub clear : (i k : ℕ) → i < n → k < 8 → holds_in fs vs i k ≡ false → bit_at (f i) k ≡ 0
-
-scalar_canonical : (n : ℕ) (f : ByteMap) (i k : ℕ) → i < n → nat_lt i n ≡ false → bit_at (f i) k ≡ 0
-scalar_canonical n f i k low none = absurd (grind (arith, nat_tests))
 
 field_canonical : (n gap : ℕ) (s : Shape) (fs : Shapes) (v : Plain) (vs : Plains) → AreConsistent (field gap s fs) → size_in (field gap s fs) ≤ n
     → fits_in (field gap s fs) (more v vs) ≡ true → IsCanonical s v (bytes_of (packed s v))
@@ -229,10 +222,8 @@ field_canonical n gap s fs v vs sound le fit first rest =
 
 mutual
   pub packed_canonical : (s : Shape) (v : Plain) → IsConsistent s → fits s v ≡ true → IsCanonical s v (bytes_of (packed s v))
-  packed_canonical (scalar c) v sound fit = record {
-    shows = record { value = fit; same = λ i h. refl };
-    clear = λ i k low small none. scalar_canonical (scalar_size c) (bytes_of (stored c v)) i k low none;
-  }
+  packed_canonical (atom a) v sound fit =
+      record { shows = atom_canonical a v sound fit; clear = λ i k low small none. atom_clear a v i k fit low small none }
   packed_canonical (fields compound n fs) (list vs) sound fit =
       let all : AreCanonical n fs vs (bytes_of (packed_in n fs vs)) = packed_in_canonical n fs vs sound.0 sound.1 fit in
       record { shows = all.shows; clear = all.clear }

@@ -1,50 +1,60 @@
 -- The plan of a description without a fault is consistent, and covers the written frame: no value holds a free bit of the frame,
 -- and bytes that show a value match none of its items.
-use Rattle.std.specs.List.{list_any}
+use Rattle.std.specs.List.{list_all, list_any}
 use Rattle.std.specs.Int.{bit_at, next_multiple_of}
-use Rattle.std.proofs.Common.{◌≡◌, ℕ, ◌+◌, ◌-◌, ◌<◌, ◌≤◌, max, Bool, true, false, ◌||◌, List, [], ◌∷◌, ◌++◌, map, Option, None, cond, eqb, ltb, bit_or, refl, sym, ap, ◌∙◌, ◌⊎◌, inl, inr, arith}
-use Rattle.std.proofs.lemmas.Bool.{cases_lt, lt-ltb, le-ltb, eqb-true}
+use Rattle.std.proofs.Common.{◌≡◌, ℕ, zero, suc, ◌+◌, ◌-◌, ◌*◌, ◌<◌, ◌≤◌, max, Bool, true, false, ◌&&◌, ◌||◌, not, List, [], ◌∷◌, ◌++◌, map, Option, None, cond, eqb, ltb, bit_or, refl, sym, ap, subst, ◌∙◌, ◌⊎◌, inl, inr, arith}
+use Rattle.std.proofs.lemmas.Bool.{cases_lt, lt-ltb, le-ltb, eqb-true, and_parts}
+use Rattle.std.proofs.lemmas.Bool.Decides.{nat_tests}
 use Rattle.std.proofs.lemmas.Nat.Bits.{bit_at_or, bit_at-zero, bit_at-lt}
 use Rattle.std.proofs.lemmas.List.Folds.{list_any-append}
 use Rattle.abi_num.specs.Target.{is_row}
 use Rattle.abi_num.specs.declared.target.Target.{Target}
-use Rattle.abi_bits.specs.Pairs.{Pair, is_matched, moved_pairs}
+use Rattle.abi_bits.specs.Pairs.{Pair, is_matched, moved_pairs, is_pattern, are_bytes}
 use Rattle.abi_bits.specs.Mask.{mask_at, entries_below}
-use Rattle.abi_bits.specs.Forbidden.{Item, pattern, range, is_match, moved_item}
+use Rattle.abi_bits.specs.Forbidden.{Item, pattern, range, is_match, moved_item, is_solid_item}
 use Rattle.abi_bits.proofs.Entries.{entries_at, zero_past}
 use Rattle.abi_bits.proofs.Masks.{zero_or, or_zero}
 use Rattle.abi_det.specs.Frame.{Frame}
-use Rattle.abi_det.specs.Offers.{or_else, Rules}
+use Rattle.abi_det.specs.Offers.{Rules}
 use Rattle.abi_det.specs.SoundPlacement as placements
 use Rattle.abi_det.specs.Roles.{union_size}
 use Rattle.abi_det.specs.State.{is_tested}
+use Rattle.abi_det.specs.declared.determinant.Test.TheVariants as test
 use Rattle.abi_det.specs.Written.{written_placement, written_sum}
 use Rattle.abi_det.specs.declared.placements.Placement.{Placement}
 use Rattle.abi_det.proofs.SoundPlacements.{placements_sound}
-use Rattle.abi_det.proofs.Lawful.{parts as lawful_parts}
-use Rattle.abi_layout.specs.Builders.{start_after, whole_between, byte_from}
-use Rattle.abi_layout.specs.Faults.{size_fault, align_fault, part_fault, part_fault_in}
-use Rattle.abi_layout.specs.Frames.{written_frame, written_frames}
-use Rattle.abi_layout.specs.Plans.{shape_of, shapes_of, sum_layout_of}
-use Rattle.abi_layout.specs.Prims.{scalar_of, scalar_frame}
-use Rattle.abi_layout.specs.Shape.{Shape, scalar, sum, size, size_in}
+use Rattle.abi_det.proofs.Lawful.{parts as lawful_parts, bytes_in}
+use Rattle.abi_layout.specs.Builders.{start_after, whole_between, byte_from, overlaid}
+use Rattle.abi_layout.specs.Builders as builders
+use Rattle.abi_layout.specs.CoreSums.{is_empty, is_one, sole_pattern, is_sole_pattern, payload_first, payload, absence, is_core_sum, core_frame}
+use Rattle.abi_layout.specs.Faults.{part_fault, part_fault_in}
+use Rattle.abi_layout.specs.Frames.{written_frame, written_frames, wrapped}
+use Rattle.abi_layout.specs.Leaves.{leaf_frame}
+use Rattle.abi_layout.specs.Plans.{shape_of, shapes_of, sum_layout_of, core_layout}
+use Rattle.abi_layout.specs.Prims.{prim_row, pointer_row, row_frame}
+use Rattle.abi_layout.specs.Shape.{Shape, atom, scalar, raw, fields, sum, last, field, repeated, size, size_in}
 use Rattle.abi_layout.specs.Structs.{positions, end_of, fields_align, fields_byte, fields_items, struct_frame}
 use Rattle.abi_layout.specs.Trees as trees
-use Rattle.abi_layout.specs.Trees.{Tree, Branches, Label, sides, parts, parts_in, variant_parts}
-use Rattle.abi_layout.specs.declared.desc_error.DescError.{DescError}
+use Rattle.abi_layout.specs.Trees.{Tree, Branches, Label, sides, leaf_items, parts, parts_in}
+use Rattle.abi_layout.specs.declared.desc.LeafDesc.{LeafDesc}
+use Rattle.abi_layout.specs.declared.desc.WrapKind.{WrapKind}
+use Rattle.abi_layout.specs.declared.desc.WrapKind.TheVariants as wrapper
+use Rattle.abi_layout.specs.declared.part.Compound.TheVariants as compound
 use Rattle.abi_layout.specs.declared.part.Sort.{Sort}
-use Rattle.abi_layout.specs.declared.prim.Primitive.{Primitive}
+use Rattle.abi_layout.specs.declared.part.SumLayout.{SumLayout}
+use Rattle.abi_layout.specs.declared.primitives.Row.{Row}
 use Rattle.abi_layout.proofs.Bytes.{whole_past, whole_before, byte_inside, byte_before}
-use Rattle.abi_layout.proofs.Faultless.{no_fault, struct_end}
+use Rattle.abi_layout.proofs.Faultless.{no_fault, after_one, after_two, core_faultless, struct_end}
+use Rattle.abi_layout.proofs.Repeating.{repeated_size}
 use Rattle.abi_layout.proofs.Sounding.{part_sound}
 use Rattle.abi_pack.specs.ByteMap.{ByteMap, has, seen_from}
 use Rattle.abi_pack.specs.Plain.{Plain, Plains, unit, integer, boolean, order, bytes, list, variant, end, more}
-use Rattle.abi_pack.specs.Shows.{Shows, ShowIn, holds, holds_in, start_of}
+use Rattle.abi_pack.specs.Shows.{Shows, ShowIn, holds, holds_in, start_of, sign_of}
 use Rattle.abi_pack.specs.Consistent.{IsConsistent, AreConsistent, IsSide}
 use Rattle.abi_pack.specs.Variants.{truth_of, held_at}
-use Rattle.abi_pack.proofs.Choice.{in_gap, in_field, behind_field, three_places, neither, and_no}
-use Rattle.abi_pack.proofs.Stored.{scalar_allowed}
-use Rattle.abi_pack.proofs.TreeValues.{same_size, moved}
+use Rattle.abi_pack.proofs.Choice.{in_gap, in_field, behind_field, three_places, neither, neither_first, and_no}
+use Rattle.abi_pack.proofs.Atoms.{atom_allowed}
+use Rattle.abi_pack.proofs.TreeValues.{after_end, same_size, moved, from_zero}
 
 pub record Covers (f : Frame) (s : Shape) : Type 0 where
   pub free : (v : Plain) (i k : ℕ) → k < 8 → has f.free i k ≡ true → holds s v i k ≡ false
@@ -66,14 +76,44 @@ or_bit a b k = rw (bit_at_or a b k) (max_bit (bit_at a k) (bit_at b k) (bit_at-l
 no_bit : (k : ℕ) → eqb (bit_at 0 k) 1 ≡ true → ⊥
 no_bit k h = let none : eqb (bit_at 0 k) 1 ≡ false = rw (bit_at-zero k) refl in absurd (cc)
 
--- ---- a primitive
-
-prim_covers : (target : Target) (p : Primitive) → Covers (scalar_frame target (scalar_of target p)) (scalar (scalar_of target p))
-unfolding scalar_frame
-prim_covers target p = record {
-  free = λ v i k small h. absurd (no_bit k h);
-  items = λ v g shown. scalar_allowed (scalar_of target p) v g shown;
+-- a frame that frees and forbids nothing
+nothing_covers : (f : Frame) (s : Shape) → f.free ≡ [] → f.forbids ≡ [] → Covers f s
+nothing_covers f s free items = record {
+  free = λ v i k small h. absurd (no_bit k (rw free at h));
+  items = λ v g shown. rw items refl;
 }
+
+-- ---- what has no parts
+
+row_covers : (r : Row) → Covers (row_frame r) (atom (scalar r.scalar))
+unfolding row_frame
+row_covers r = record {
+  free = λ v i k small h. absurd (no_bit k h);
+  items = λ v g shown. atom_allowed (scalar r.scalar) v g shown;
+}
+
+leaf_covers : (l : LeafDesc) → Covers (leaf_frame l) (atom (raw l.size l.free (leaf_items l)))
+unfolding leaf_frame
+leaf_covers l = record {
+  free = λ v i k small h. rw h (and_no (ltb i l.size) false refl);
+  items = λ v g shown. atom_allowed (raw l.size l.free (leaf_items l)) v g shown;
+}
+
+leaf_consistent : (l : LeafDesc) → placements.IsWellFormed (leaf_frame l) → IsConsistent (atom (raw l.size l.free (leaf_items l)))
+unfolding leaf_frame
+leaf_consistent l sound = (sound.mask, (lawful_parts (leaf_frame l) sound.lawful).solid)
+
+union_covers : (ok err : Frame) (s : Shape) → Covers (overlaid ok err) s
+unfolding overlaid
+union_covers ok err s = nothing_covers (overlaid ok err) s refl refl
+
+wrapped_covers : (kind : WrapKind) (f : Frame) (s : Shape) → Covers f s → Covers (wrapped kind f) s
+wrapped_covers wrapper.ManuallyDrop f s c = c
+wrapped_covers wrapper.MaybeUninit f s c = record { free = c.free; items = c.items }
+wrapped_covers wrapper.UnsafeCell f s c = record { free = c.free; items = c.items }
+wrapped_covers wrapper.Pin f s c = c
+wrapped_covers wrapper.NotPod f s c = record { free = c.free; items = c.items }
+wrapped_covers wrapper.OrInfallible f s c = c
 
 -- ---- a packed sum
 
@@ -147,6 +187,94 @@ sum_covers rules names f g a b are o = record {
   items = λ v h shown. refl;
 }
 
+-- ---- a core sum: `n` bytes, of which what the payload never is, `ps`, means the other variant
+
+abbrev core_at : Bool → ℕ → List Pair → SumLayout
+core_at payload n ps = record { ok = 0; err = 0; size = n; determinant = record { «not» = not payload; test = test.ValueIsErr ps } }
+
+core_start : (payload : Bool) (n : ℕ) (ps : List Pair) (first : Bool) → start_of (core_at payload n ps) first ≡ 0
+core_start payload n ps true = refl
+core_start payload n ps false = refl
+
+payload_side : (s : Shape) (payload first : Bool) (n : ℕ) (ps : List Pair) → sign_of (core_at payload n ps) first ≡ false → size s ≡ n
+    → ((v : Plain) (g : ByteMap) → Shows s v g → is_matched ps g ≡ false) → IsSide s first (core_at payload n ps)
+payload_side s payload first n ps sign same lacks =
+    let start = core_start payload n ps first in
+    record {
+      inside = omega (arith, start, same);
+      imposed = λ written v i k small own. absurd (let never : false ≡ true = rw sign at written in cc);
+      forbids = λ unwritten v g matched shown.
+          let here : Shows s v g = subst (λ x. Shows s v x) (ap (λ o. seen_from o g) start ∙ from_zero g) shown in
+          let none : is_matched ps g ≡ false = lacks v g here in absurd (cc);
+    }
+
+empty_side : (s : Shape) (payload first : Bool) (n : ℕ) (ps : List Pair) → sign_of (core_at payload n ps) first ≡ true → size s ≡ 0
+    → IsSide s first (core_at payload n ps)
+empty_side s payload first n ps sign none =
+    let start = core_start payload n ps first in
+    record {
+      inside = omega (arith, start, none);
+      imposed = λ written v i k small own. rw (start, none) (beside i (holds s v (i - 0) k));
+      forbids = λ unwritten v g matched shown. absurd (let never : true ≡ false = rw sign at unwritten in cc);
+    }
+  where
+    beside : (i : ℕ) (b : Bool) → cond (ltb i 0) false (cond (ltb i (0 + 0)) b false) ≡ false
+    beside i b = grind (arith, nat_tests)
+
+-- the payload as large as the sum and never what its niche is, the other variant without bytes
+record AreCore (payload : Bool) (n : ℕ) (ps : List Pair) (side : Bool → Shape) : Type 0 where
+  pub same : size (side payload) ≡ n
+  pub lacks : (v : Plain) (g : ByteMap) → Shows (side payload) v g → is_matched ps g ≡ false
+  pub none : size (side (not payload)) ≡ 0
+
+core_sides : (payload : Bool) (n : ℕ) (ps : List Pair) (side : Bool → Shape) → AreCore payload n ps side → (first : Bool) → IsSide (side first) first (core_at payload n ps)
+core_sides true n ps side are true = payload_side (side true) true true n ps refl are.same are.lacks
+core_sides true n ps side are false = empty_side (side false) true false n ps refl are.none
+core_sides false n ps side are true = empty_side (side true) false true n ps refl are.none
+core_sides false n ps side are false = payload_side (side false) false false n ps refl are.same are.lacks
+
+-- ---- an array
+
+item_free : (s : Shape) (v : Plain) (i k : ℕ) → holds s v i k ≡ false → (vs : Plains) → holds_in (field 0 s last) (more v vs) i k ≡ false
+item_free s v i k none vs =
+    let own : Bool = holds s v (i - 0) k in
+    let here : i - 0 ≡ i = omega arith in
+    three_places i 0 (size s)
+    (λ h. in_gap i 0 (size s) false own false h)
+    (λ g l. in_field i 0 (size s) false own false g l ∙ rw here none)
+    (λ h. behind_field i 0 (size s) false own false h)
+
+one_free : (n : ℕ) (f : Frame) (s : Shape) → Covers f s → (v : Plain) (i k : ℕ) → k < 8 → has f.free i k ≡ true → holds (fields compound.Array n (repeated 1 s)) v i k ≡ false
+one_free n f s c (list (more v vs)) i k small h = item_free s v i k (c.free v i k small h) vs
+one_free n f s c (list end) i k small h = refl
+one_free n f s c _ i k small h = refl
+
+one_allowed : (n : ℕ) (f : Frame) (s : Shape) → Covers f s → (v : Plain) (g : ByteMap) → Shows (fields compound.Array n (repeated 1 s)) v g → list_any (is_match g) f.forbids ≡ false
+one_allowed n f s c (list (more v vs)) g shown = c.items v g (subst (λ x. Shows s v x) (from_zero g) shown.0)
+one_allowed n f s c (list end) g shown = absurd shown
+one_allowed n f s c _ g shown = absurd shown
+
+several : (n : ℕ) → eqb (suc (suc n)) 1 ≡ false
+several n = grind (arith, nat_tests)
+
+array_covers : (f : Frame) (s : Shape) (n len : ℕ) → Covers f s → Covers (builders.repeated f len) (fields compound.Array n (repeated len s))
+unfolding builders.repeated
+array_covers f s n zero c = nothing_covers (builders.repeated f zero) (fields compound.Array n (repeated zero s)) refl refl
+array_covers f s n (suc zero) c = record { free = one_free n f s c; items = one_allowed n f s c }
+array_covers f s n (suc (suc len)) c =
+    let many = several len in
+    nothing_covers (builders.repeated f (suc (suc len))) (fields compound.Array n (repeated (suc (suc len)) s)) (rw many refl) (rw many refl)
+
+repeated_consistent : (n : ℕ) (s : Shape) → IsConsistent s → AreConsistent (repeated n s)
+repeated_consistent zero s h = tt
+repeated_consistent (suc n) s h = (h, repeated_consistent n s h)
+
+items_size : (len : ℕ) (f : Frame) (s : Shape) → size s ≡ f.size → size_in (repeated len s) ≡ (builders.repeated f len).size
+items_size len f s e = in_row len ∙ sym (repeated_size f len) where
+  in_row : (n : ℕ) → size_in (repeated n s) ≡ f.size * n
+  in_row zero = omega arith
+  in_row (suc n) = let rest = in_row n in omega (arith, e, rest)
+
 -- ---- a struct
 
 -- each field's shape covers its frame, whose free bits lie within it, and is consistent
@@ -157,9 +285,6 @@ AllCover rules target (trees.field name t fs) =
     × IsConsistent (shape_of rules target t)
     × ((at : ℕ) → (written_frame rules target t).size ≤ at → mask_at (written_frame rules target t).free at ≡ 0)
     × AllCover rules target fs
-
-after_end : (before : ℕ) (f : Frame) → before ≤ start_after before f
-after_end before f = omega arith
 
 end_grows : (before : ℕ) (fs : List Frame) → before ≤ end_of before fs
 end_grows before [] = omega arith
@@ -329,14 +454,73 @@ sum_covered rules names f g a b na nb ca cb sf sg =
     both_sound true = ca.sound
     both_sound false = cb.sound
 
+-- ---- a core sum, by its frames
+
+sole : (its : List Item) → is_sole_pattern its ≡ true → its ≡ pattern (sole_pattern its) ∷ []
+sole [] h = absurd (cc)
+sole (pattern ps ∷ []) h = refl
+sole (pattern ps ∷ it ∷ its) h = absurd (cc)
+sole (range at least greatest ∷ its) h = absurd (cc)
+
+niche_tested : (f : Frame) (ps : List Pair) → placements.IsWellFormed f → f.forbids ≡ pattern ps ∷ [] → placements.IsTest (test.ValueIsErr ps) f.size
+niche_tested f ps sound one = (
+  head_of is_pattern (rw one at sound.patterns),
+  bytes_in f.size f.size f.free ps (omega arith) (solid (rw one at (lawful_parts f sound.lawful).solid)),
+  head_of are_bytes (rw one at sound.bytes),
+)
+  where
+    head_of : (p : List Pair → Bool) → list_all p (ps ∷ []) ≡ true → p ps ≡ true
+    head_of p h = (and_parts (p ps) true h).0
+
+    solid : list_all (is_solid_item f.size f.free) (pattern ps ∷ []) ≡ true → is_solid_item f.size f.free (pattern ps) ≡ true
+    solid h = (and_parts (is_solid_item f.size f.free (pattern ps)) true h).0
+
+no_bytes : (f : Frame) → is_empty f ≡ true → f.size ≡ 0
+no_bytes f h = eqb-true f.size 0 (and_parts (eqb f.size 0) (eqb f.align 1) h).0
+
+lacks_niche : (f : Frame) (s : Shape) (ps : List Pair) → Covers f s → f.forbids ≡ pattern ps ∷ [] → (v : Plain) (g : ByteMap) → Shows s v g → is_matched ps g ≡ false
+lacks_niche f s ps c one v g shown = neither_first (is_matched ps g) false (rw one at (c.items v g shown))
+
+core_covered : (names : Sort) (ok err : Frame) (a b : Shape) → size a ≡ ok.size → size b ≡ err.size → IsCovered ok a → IsCovered err b
+    → placements.IsWellFormed ok → placements.IsWellFormed err → is_core_sum ok err ≡ true
+    → IsCovered (core_frame ok err) (sum names (sides a b) (core_layout ok err))
+core_covered names ok err a b na nb ca cb sa sb h =
+    let front : Bool = is_one (payload ok err).niches && is_sole_pattern (payload ok err).forbids in
+    let whole = and_parts front (is_empty (sides err ok (payload_first ok err))) h in
+    let one = sole (payload ok err).forbids (and_parts (is_one (payload ok err).niches) (is_sole_pattern (payload ok err).forbids) whole.0).1 in
+    let none = no_bytes (sides err ok (payload_first ok err)) whole.1 in
+    let ps : List Pair = absence ok err in
+    record {
+      covers = nothing_covers (core_frame ok err) (sum names (sides a b) (core_layout ok err)) refl refl;
+      sound = (
+        both_sound,
+        record {
+          each = core_sides (payload_first ok err) (payload ok err).size ps (sides a b) (are (payload_first ok err) ps one none);
+          tested = niche_tested (payload ok err) ps (payload_sound (payload_first ok err)) one;
+        },
+      );
+    }
+  where
+    both_sound : (first : Bool) → IsConsistent (sides a b first)
+    both_sound true = ca.sound
+    both_sound false = cb.sound
+
+    payload_sound : (first : Bool) → placements.IsWellFormed (sides ok err first)
+    payload_sound true = sa
+    payload_sound false = sb
+
+    are : (first : Bool) (ps : List Pair) → (sides ok err first).forbids ≡ pattern ps ∷ [] → (sides err ok first).size ≡ 0
+        → AreCore first (sides ok err first).size ps (sides a b)
+    are true ps one none = record { same = na; lacks = lacks_niche ok a ps ca.covers one; none = nb ∙ none }
+    are false ps one none = record { same = nb; lacks = lacks_niche err b ps cb.covers one; none = na ∙ none }
+
 mutual
   pub part_covered : (rules : Rules) (target : Target) (first : ℕ) (t : Tree) → is_row target ≡ true → part_fault rules target first t ≡ None
       → IsCovered (written_frame rules target t) (shape_of rules target t)
-  part_covered rules target first (trees.prim p) row h = record { covers = prim_covers target p; sound = tt }
+  part_covered rules target first (trees.prim p) row h = record { covers = row_covers (prim_row target p); sound = tt }
   part_covered rules target first (trees.struct label fs align) row h =
       let frames : List Frame = written_frames rules target fs in
-      let whole : Option DescError = size_fault (first + parts_in fs) (written_frame rules target (trees.struct label fs align)) in
-      let a = no_fault (part_fault_in rules target first fs) (or_else (align_fault (first + parts_in fs) align) whole) h in
+      let a = after_one (part_fault_in rules target first fs) rules target (first + parts_in fs) (trees.struct label fs align) h in
       let all = parts_covered rules target first fs row a.0 in
       let inside : size_in (shapes_of rules target 0 fs) ≤ (struct_frame frames align).size =
       omega (arith, fields_size rules target 0 fs, struct_end frames align) in
@@ -347,17 +531,48 @@ mutual
         };
         sound = (fields_sound rules target 0 fs all, inside);
       }
+  part_covered rules target first (trees.array item len) row h =
+      let f = written_frame rules target item in
+      let s : Shape = shape_of rules target item in
+      let a = after_one (part_fault rules target first item) rules target (first + parts item) (trees.array item len) h in
+      let one = part_covered rules target first item row a.0 in
+      let inside = items_size len f s (same_size rules target item) in
+      record {
+        covers = array_covers f s (written_frame rules target (trees.array item len)).size len one.covers;
+        sound = (repeated_consistent len s one.sound, omega (arith, inside));
+      }
+  part_covered rules target first (trees.union side) row h = record {
+    covers = union_covers (written_frame rules target (side true)) (written_frame rules target (side false)) (shape_of rules target (trees.union side));
+    sound = (refl, refl);
+  }
   part_covered rules target first (trees.sum names side) row h =
       let ok : Tree = side true in
       let err : Tree = side false in
-      let number : ℕ = first + variant_parts names (parts ok) (parts err) in
-      let whole : Option DescError = size_fault number (written_frame rules target (trees.sum names side)) in
-      let a = no_fault (part_fault rules target first ok) (or_else (part_fault rules target (first + parts ok) err) whole) h in
-      let b = no_fault (part_fault rules target (first + parts ok) err) whole a.1 in
+      let a = after_two _ _ rules target _ (trees.sum names side) h in
       sum_covered rules names (written_frame rules target ok) (written_frame rules target err) (shape_of rules target ok) (shape_of rules target err)
       (same_size rules target ok) (same_size rules target err)
-      (part_covered rules target first (side true) row a.0) (part_covered rules target (first + parts ok) (side false) row b.0)
-      (part_sound rules target first ok row a.0) (part_sound rules target (first + parts ok) err row b.0)
+      (part_covered rules target first (side true) row a.0) (part_covered rules target (first + parts ok) (side false) row a.1)
+      (part_sound rules target first ok row a.0) (part_sound rules target (first + parts ok) err row a.1)
+  part_covered rules target first (trees.core names side) row h =
+      let ok : Tree = side true in
+      let err : Tree = side false in
+      let a = core_faultless rules target first names side h in
+      core_covered names (written_frame rules target ok) (written_frame rules target err) (shape_of rules target ok) (shape_of rules target err)
+      (same_size rules target ok) (same_size rules target err)
+      (part_covered rules target first (side true) row a.0) (part_covered rules target (first + parts ok) (side false) row a.1)
+      (part_sound rules target first ok row a.0) (part_sound rules target (first + parts ok) err row a.1) a.2
+  part_covered rules target first (trees.wrap kind t) row h =
+      let inner = part_covered rules target first t row (after_one _ rules target _ (trees.wrap kind t) h).0 in
+      record { covers = wrapped_covers kind (written_frame rules target t) (shape_of rules target t) inner.covers; sound = inner.sound }
+  part_covered rules target first (trees.stable_if value condition) row h =
+      part_covered rules target first value row (after_two _ _ rules target _ (trees.stable_if value condition) h).0
+  part_covered rules target first (trees.pointer kind t) row h = record { covers = row_covers (pointer_row target kind); sound = tt }
+  part_covered rules target first (trees.no_niches size align niches indirections) row h = record {
+    covers = nothing_covers (written_frame rules target (trees.no_niches size align niches indirections)) (atom (raw size [] [])) refl refl;
+    sound = (refl, refl);
+  }
+  part_covered rules target first (trees.leaf l) row h =
+      record { covers = leaf_covers l; sound = leaf_consistent l (part_sound rules target first (trees.leaf l) row h) }
 
   pub parts_covered : (rules : Rules) (target : Target) (first : ℕ) (fs : Branches) → is_row target ≡ true → part_fault_in rules target first fs ≡ None
       → AllCover rules target fs

@@ -1,9 +1,9 @@
 -- The laws of packed bytes, of descriptions, from those of their plans.
 use Rattle.std.specs.Prelude.{nat_lt}
 use Rattle.std.specs.Int.{bit_at}
-use Rattle.std.proofs.Common.{◌≡◌, ℕ, ◌+◌, ◌*◌, ◌/◌, ◌%◌, ◌^◌, ◌<◌, ◌≤◌, ◌≢◌, ◌⊎◌, inl, inr, List, get_or, Bool, true, false, not, ◌==◌, Option, Some, None, cond, bit_xor, refl, ◌∙◌, sym, subst, arith}
+use Rattle.std.proofs.Common.{◌≡◌, ◌↔◌, ℕ, ◌+◌, ◌*◌, ◌/◌, ◌%◌, ◌^◌, ◌<◌, ◌≤◌, ◌≢◌, ◌⊎◌, inl, inr, List, length, get_or, Bool, true, false, ◌&&◌, not, ◌==◌, Option, Some, None, cond, bit_xor, refl, ◌∙◌, sym, subst, arith}
 use Rattle.std.proofs.lemmas.Bool.Decides.{nat_tests, eqb_tells}
-use Rattle.std.proofs.lemmas.Bool.{eq-eqb}
+use Rattle.std.proofs.lemmas.Bool.{eq-eqb, eqb-true}
 use Rattle.std.proofs.lemmas.List.{ext_get_or}
 use Rattle.std.proofs.lemmas.Nat.{pow_below, xor_lt}
 use Rattle.std.proofs.lemmas.Nat.Bits.{bit_at-lt, bit_at_xor, bit_at-pow_same, bit_at-pow_other}
@@ -11,29 +11,32 @@ use Rattle.abi_num.specs.Target.{is_row}
 use Rattle.abi_num.specs.declared.target.Target.{Target}
 use Rattle.abi_bits.specs.Mask.{mask_at}
 use Rattle.abi_det.specs.Offers.{Rules}
-use Rattle.abi_layout.specs.Faults.{part_fault, desc_fault}
+use Rattle.abi_layout.specs.Faults.{part_fault, part_fault_in, desc_fault}
 use Rattle.abi_layout.specs.Frames.{written_frame}
 use Rattle.abi_layout.specs.Plans.{shape_of}
 use Rattle.abi_layout.specs.Shape.{Shape}
-use Rattle.abi_layout.specs.Trees.{Tree, parts}
+use Rattle.abi_layout.specs.Trees as trees
+use Rattle.abi_layout.specs.Trees.{Tree, Branches, parts}
 use Rattle.abi_layout.specs.declared.desc_error.DescError.{DescError}
 use Rattle.abi_layout.specs.declared.desc_error.DescError.TheVariants as fault
 use Rattle.abi_det.proofs.Lawful.{size_bound}
+use Rattle.abi_layout.proofs.Faultless.{no_fault, after_one, after_two, prim_faultless}
 use Rattle.abi_layout.proofs.Sounding.{part_sound}
 use Rattle.abi_pack.specs.Agree.{Agree}
 use Rattle.abi_pack.specs.ByteMap.{ByteMap, AreBytes, bytes_of}
-use Rattle.abi_pack.specs.Laws.{bit_of, Holds, flipped, CanonicalLaw, UniqueLaw, FitLaw, HeldLaw, FlipLaw, FreeLaw, ChangeLaw, ItemLaw, PackedLaw, BackLaw}
+use Rattle.abi_pack.specs.Laws.{bit_of, Holds, flipped, CanonicalLaw, UniqueLaw, FitLaw, HeldLaw, FlipLaw, FreeLaw, ChangeLaw, ItemLaw, PackedLaw, BackLaw, ReadLaw}
 use Rattle.abi_pack.specs.Packed.{packed}
 use Rattle.abi_pack.specs.Plain.{Plain}
 use Rattle.abi_pack.specs.Shows as shape
+use Rattle.abi_pack.specs.ValueShown.{is_shown, value_shown}
 use Rattle.abi_pack.specs.Values.{Shows, holds, fits, IsCanonical, IsImageOf}
 use Rattle.abi_pack.proofs.Agreed.{agree, same_held}
 use Rattle.abi_pack.proofs.Canons.{packed_canonical, packed_length, packed_small}
-use Rattle.abi_pack.proofs.Choice.{two_truths}
+use Rattle.abi_pack.proofs.Choice.{and_first, and_second, two_truths}
 use Rattle.abi_pack.proofs.Covering.{IsCovered, part_covered}
-use Rattle.abi_pack.proofs.TreeValues.{same_size, same_fits, same_shows, same_holds}
+use Rattle.abi_pack.proofs.ShownValues.{unique, shown_value, shown_where, told_where, shown_fits}
+use Rattle.abi_pack.proofs.TreeValues.{IsFormed, AreFormed, same_size, same_fits, same_shows, same_holds}
 use Rattle.abi_pack.proofs.Truths.{same_byte}
-use Rattle.abi_pack.proofs.Unique.{unique, shown_fits}
 
 -- ---- a description without a fault
 
@@ -42,54 +45,91 @@ row_if false many rest h = absurd (cc)
 row_if true true rest h = absurd (cc)
 row_if true false rest h = (refl, h)
 
-pub faultless_covered : (rules : Rules) (target : Target) (t : Tree) → desc_fault rules target t ≡ None → IsCovered (written_frame rules target t) (shape_of rules target t)
+pub faultless_parts : (rules : Rules) (target : Target) (t : Tree) → desc_fault rules target t ≡ None → (is_row target ≡ true) × (part_fault rules target 0 t ≡ None)
 unfolding desc_fault
-faultless_covered rules target t h =
-    let d = row_if (is_row target) (nat_lt 4096 (parts t)) (part_fault rules target 0 t) h in
-    part_covered rules target 0 t d.0 d.1
+faultless_parts rules target t h = row_if (is_row target) (nat_lt 4096 (parts t)) (part_fault rules target 0 t) h
+
+pub faultless_covered : (rules : Rules) (target : Target) (t : Tree) → desc_fault rules target t ≡ None → IsCovered (written_frame rules target t) (shape_of rules target t)
+faultless_covered rules target t h = let d = faultless_parts rules target t h in part_covered rules target 0 t d.0 d.1
 
 pub faultless_small : (rules : Rules) (target : Target) (t : Tree) → desc_fault rules target t ≡ None → (written_frame rules target t).size ≤ 1048576
-unfolding desc_fault
 faultless_small rules target t h =
-    let d = row_if (is_row target) (nat_lt 4096 (parts t)) (part_fault rules target 0 t) h in
-    size_bound (written_frame rules target t) (part_sound rules target 0 t d.0 d.1).lawful
+    let d = faultless_parts rules target t h in size_bound (written_frame rules target t) (part_sound rules target 0 t d.0 d.1).lawful
+
+both_formed : (target : Target) (side : Bool → Tree) → IsFormed target (side true) → IsFormed target (side false) → (first : Bool) → IsFormed target (side first)
+both_formed target side ok err true = ok
+both_formed target side ok err false = err
+
+mutual
+  part_formed : (rules : Rules) (target : Target) (first : ℕ) (t : Tree) → part_fault rules target first t ≡ None → IsFormed target t
+  part_formed rules target first (trees.prim p) h = prim_faultless rules target first p h
+  part_formed rules target first (trees.struct label fs align) h =
+      parts_formed rules target first fs (after_one _ rules target _ (trees.struct label fs align) h).0
+  part_formed rules target first (trees.array item len) h = part_formed rules target first item (after_one _ rules target _ (trees.array item len) h).0
+  part_formed rules target first (trees.sum names side) h =
+      let a = after_two _ _ rules target _ (trees.sum names side) h in
+      both_formed target side (part_formed rules target first (side true) a.0) (part_formed rules target (first + parts (side true)) (side false) a.1)
+  part_formed rules target first (trees.core names side) h =
+      let a = after_two _ _ rules target _ (trees.core names side) h in
+      both_formed target side (part_formed rules target first (side true) a.0) (part_formed rules target (first + parts (side true)) (side false) a.1)
+  part_formed rules target first (trees.wrap kind t) h = part_formed rules target first t (after_one _ rules target _ (trees.wrap kind t) h).0
+  part_formed rules target first (trees.stable_if value condition) h =
+      part_formed rules target first value (after_two _ _ rules target _ (trees.stable_if value condition) h).0
+  part_formed rules target first _ h = tt
+
+  parts_formed : (rules : Rules) (target : Target) (first : ℕ) (fs : Branches) → part_fault_in rules target first fs ≡ None → AreFormed target fs
+  parts_formed rules target first trees.none h = tt
+  parts_formed rules target first (trees.field name t fs) h =
+      let a = no_fault (part_fault rules target first t) (part_fault_in rules target (first + parts t) fs) h in
+      (part_formed rules target first t a.0, parts_formed rules target (first + parts t) fs a.1)
+
+formed : (rules : Rules) (target : Target) (t : Tree) → desc_fault rules target t ≡ None → IsFormed target t
+formed rules target t h = part_formed rules target 0 t (faultless_parts rules target t h).1
+
+-- what a description without a fault says of values and bytes is what its plan says
+pub faultless_fits : (rules : Rules) (target : Target) (t : Tree) (v : Plain) → desc_fault rules target t ≡ None → fits rules target t v ≡ shape.fits (shape_of rules target t) v
+faultless_fits rules target t v none = same_fits rules target t v (formed rules target t none)
+
+pub faultless_shows : (rules : Rules) (target : Target) (t : Tree) (v : Plain) (f : ByteMap) → desc_fault rules target t ≡ None → AreBytes f
+    → Shows rules target t v f ↔ shape.Shows (shape_of rules target t) v f
+faultless_shows rules target t v f none bytes = same_shows rules target t v f (formed rules target t none) bytes
 
 -- ---- from the plan to the description
 
-pub tree_canonical : (rules : Rules) (target : Target) (t : Tree) (v : Plain) (f : ByteMap) → AreBytes f → shape.IsCanonical (shape_of rules target t) v f
+tree_canonical : (rules : Rules) (target : Target) (t : Tree) (v : Plain) (f : ByteMap) → desc_fault rules target t ≡ None → AreBytes f → shape.IsCanonical (shape_of rules target t) v f
     → IsCanonical rules target t v f
-tree_canonical rules target t v f b c = record {
-  shows = (same_shows rules target t v f b).1 c.shows;
-  clear = λ i k low small none. c.clear i k (rw (same_size rules target t) low) small (sym (same_holds rules target t v i k) ∙ none);
+tree_canonical rules target t v f none b c = record {
+  shows = (faultless_shows rules target t v f none b).1 c.shows;
+  clear = λ i k low small free. c.clear i k (rw (same_size rules target t) low) small (sym (same_holds rules target t v i k) ∙ free);
 }
 
 -- the bytes that writing leaves are the value's canonical ones
-pub packed_image : (rules : Rules) (target : Target) (t : Tree) (v : Plain) → desc_fault rules target t ≡ None → fits target t v ≡ true
+pub packed_image : (rules : Rules) (target : Target) (t : Tree) (v : Plain) → desc_fault rules target t ≡ None → fits rules target t v ≡ true
     → IsImageOf rules target t v (packed (shape_of rules target t) v)
 packed_image rules target t v none fit =
     let s : Shape = shape_of rules target t in
     let sound = (faultless_covered rules target t none).sound in
-    let fit_ : shape.fits s v ≡ true = sym (same_fits rules target t v) ∙ fit in
+    let fit_ : shape.fits s v ≡ true = sym (faultless_fits rules target t v none) ∙ fit in
     let bytes = packed_small s v sound fit_ in
     record {
       long = packed_length s v sound fit_ ∙ same_size rules target t;
       bytes = bytes;
-      canonical = tree_canonical rules target t v (bytes_of (packed s v)) bytes (packed_canonical s v sound fit_);
+      canonical = tree_canonical rules target t v (bytes_of (packed s v)) none bytes (packed_canonical s v sound fit_);
     }
 
 tree_held : (rules : Rules) (target : Target) (t : Tree) (v : Plain) (f g : ByteMap) → desc_fault rules target t ≡ None → AreBytes f → AreBytes g
     → Shows rules target t v f → Shows rules target t v g → Agree (λ i k. holds rules target t v i k) (written_frame rules target t).size f g
 tree_held rules target t v f g none bf bg hf hg i k low small held =
-    same_held (shape_of rules target t) v f g (faultless_covered rules target t none).sound ((same_shows rules target t v f bf).0 hf) ((same_shows rules target t v g bg).0 hg)
+    same_held (shape_of rules target t) v f g (faultless_covered rules target t none).sound ((faultless_shows rules target t v f none bf).0 hf) ((faultless_shows rules target t v g none bg).0 hg)
     i k (rw (same_size rules target t) low) small (sym (same_holds rules target t v i k) ∙ held)
 
 tree_agree : (rules : Rules) (target : Target) (t : Tree) (v : Plain) (f g : ByteMap) → desc_fault rules target t ≡ None → AreBytes f → AreBytes g
     → Agree (λ i k. holds rules target t v i k) (written_frame rules target t).size f g → Shows rules target t v f → Shows rules target t v g
 tree_agree rules target t v f g none bf bg same hf =
-    (same_shows rules target t v g bg).1
+    (faultless_shows rules target t v g none bg).1
     (agree (shape_of rules target t) v f g (faultless_covered rules target t none).sound bf bg
     (λ i k low small held. same i k (rw (same_size rules target t) at low) small (same_holds rules target t v i k ∙ held))
-    ((same_shows rules target t v f bf).0 hf))
+    ((faultless_shows rules target t v f none bf).0 hf))
 
 -- ---- bits by number
 
@@ -108,14 +148,15 @@ agree_numbered rules target t v f g h i k low small held =
 -- ---- the laws
 
 pub unique_law : UniqueLaw
-unique_law rules target t v w f b hv hw =
-    unique (shape_of rules target t) v w f ((same_shows rules target t v f b).0 hv) ((same_shows rules target t w f b).0 hw)
+unique_law rules target t v w f none b hv hw =
+    unique (shape_of rules target t) v w f ((faultless_shows rules target t v f none b).0 hv) ((faultless_shows rules target t w f none b).0 hw)
 
 pub fit_law : FitLaw
-fit_law rules target t v f b h = same_fits rules target t v ∙ shown_fits (shape_of rules target t) v f ((same_shows rules target t v f b).0 h)
+fit_law rules target t v f none b h =
+    faultless_fits rules target t v none ∙ shown_fits (shape_of rules target t) v f (faultless_covered rules target t none).sound b ((faultless_shows rules target t v f none b).0 h)
 
 pub item_law : ItemLaw
-item_law rules target t v f none b h = (faultless_covered rules target t none).covers.items v f ((same_shows rules target t v f b).0 h)
+item_law rules target t v f none b h = (faultless_covered rules target t none).covers.items v f ((faultless_shows rules target t v f none b).0 h)
 
 pub free_law : FreeLaw
 free_law rules target t v n none free held =
@@ -156,15 +197,39 @@ change_law rules target t v f g none fb gb shown same =
 
 pub packed_law : PackedLaw
 packed_law rules target t v w bs cs none b c = (
-  λ same. unique_law rules target t v w (bytes_of bs) b.bytes b.canonical.shows (subst (λ xs. Shows rules target t w (bytes_of xs)) (sym same) c.canonical.shows),
+  λ same. unique_law rules target t v w (bytes_of bs) none b.bytes b.canonical.shows (subst (λ xs. Shows rules target t w (bytes_of xs)) (sym same) c.canonical.shows),
   λ same. one_image rules target t v bs cs none b (subst (λ x. IsImageOf rules target t x cs) (sym same) c),
 )
 
 pub back_law : BackLaw
-back_law rules target t v w bs b = (
-  λ h. unique_law rules target t w v (bytes_of bs) b.bytes h b.canonical.shows,
+back_law rules target t v w bs none b = (
+  λ h. unique_law rules target t w v (bytes_of bs) none b.bytes h b.canonical.shows,
   λ e. subst (λ x. Shows rules target t x (bytes_of bs)) (sym e) b.canonical.shows,
 )
+
+-- ---- what is read
+
+some_if : {A : Type 0} (b : Bool) (x y : A) → ◌≡◌ {A = Option A} (cond b (Some x) None) (Some y) → (b ≡ true) × (x ≡ y)
+some_if true x y h = (refl, cc)
+some_if false x y h = absurd (cc)
+
+pub read_law : ReadLaw
+read_law rules target t v bs none b =
+    let s : Shape = shape_of rules target t in
+    let n : ℕ = (written_frame rules target t).size in
+    let long : Bool = length bs == n in
+    let plan = faultless_shows rules target t v (bytes_of bs) none b in (
+      λ h.
+          let found = some_if (long && is_shown s (bytes_of bs)) (value_shown s (bytes_of bs)) v h in
+          let value : shape.Shows s (value_shown s (bytes_of bs)) (bytes_of bs) = shown_value s (bytes_of bs) b (and_second long (is_shown s (bytes_of bs)) found.0) in
+          (eqb-true (length bs) n (and_first long (is_shown s (bytes_of bs)) found.0), plan.1 (subst (λ w. shape.Shows s w (bytes_of bs)) found.1 value)),
+      λ h.
+          let shown = plan.0 h.1 in
+          let there : is_shown s (bytes_of bs) ≡ true = shown_where s v (bytes_of bs) shown in
+          let whole : long ≡ true = eq-eqb (length bs) n h.0 in
+          let value : v ≡ value_shown s (bytes_of bs) = told_where s v (bytes_of bs) shown in
+          rw (whole, there, value) refl,
+    )
 
 -- ---- one bit turned over
 

@@ -1,7 +1,11 @@
 pub mod Agreed
+pub mod Atoms
+pub mod Cleared
 pub mod Canons
 pub mod Imposed
 pub mod Choice
+pub mod Coding
+pub mod Counts
 pub mod Covering
 pub mod Fitting
 pub mod Lawful
@@ -21,7 +25,6 @@ pub mod Stored
 pub mod ShownValues
 pub mod TreeValues
 pub mod Truths
-pub mod Unique
 pub mod Views
 mod WorkedRows
 pub mod Written

@@ -5,7 +5,7 @@ use Rattle.std.specs.declared.alloc.Global.{Global}
 use Rattle.abi_pack.specs.ByteMap.{ByteMap}
 use Rattle.abi_layout.specs.Plans.{IsNamed, AreNamed, is_second}
 use Rattle.abi_pack.specs.Plain.{Plain, unit}
-use Rattle.abi_layout.specs.Shape.{Shape, scalar, fields, sum, repeated}
+use Rattle.abi_layout.specs.Shape.{Shape, atom, scalar, repeated}
 use Rattle.abi_pack.specs.Shows.{same_sort}
 use Rattle.abi_layout.specs.Trees.{sides}
 use Rattle.abi_pack.specs.ValueShown.{value_shown}
@@ -34,12 +34,9 @@ variant_named p q names a b at first e is named =
     rw is (kept.0 first)
 
 told_second : (names : Sort) (s : Shape) (f : ByteMap) → is_second names s ≡ true → same_sort names sort.OfOption ≡ true → value_shown s f ≡ unit
-told_second sort.OfOption (scalar scalars.Unit) f is same = refl
+told_second sort.OfOption (atom (scalar scalars.Unit)) f is same = refl
 told_second sort.OfResult s f is same = absurd (cc)
-told_second sort.OfOption (scalar scalars.Bool) f is same = absurd (cc)
-told_second sort.OfOption (scalar (scalars.Int i)) f is same = absurd (cc)
-told_second sort.OfOption (fields compound n fs) f is same = absurd (cc)
-told_second sort.OfOption (sum names side at) f is same = absurd (cc)
+told_second _ _ f is same = absurd (cc)
 
 -- `None` holds the one value of `()`
 pub none_unit : (p q : Part) (names : Sort) (a b : Box Part Global) (at : SumLayout) (first : Bool) (f : ByteMap) (v : Plain) → p ≡ part.Sum names a b at

@@ -2,7 +2,7 @@
 use Rattle.std.proofs.Common.{◌≡◌, ℕ, ◌+◌, ◌<◌, List, Bool, true, false, arith}
 use Rattle.std.specs.declared.boxed.Box.{Box}
 use Rattle.std.specs.declared.alloc.Global.{Global}
-use Rattle.abi_layout.specs.Shape.{Shape, Shapes, scalar, fields, sum, last, field}
+use Rattle.abi_layout.specs.Shape.{Shape, Shapes, atom, fields, sum, last, field}
 use Rattle.abi_layout.specs.Trees.{sides}
 use Rattle.abi_pack.specs.View.{shape, shapes}
 use Rattle.abi_layout.specs.declared.part.Sort.{Sort}
@@ -14,7 +14,7 @@ use Rattle.abi_pack.proofs.Views.{shape_struct, shape_sum}
 
 abbrev mutual
   pub nodes : Shape → ℕ
-  nodes (scalar c) = 1
+  nodes (atom a) = 1
   nodes (fields compound n fs) = 1 + nodes_in fs
   nodes (sum names side at) = 1 + (nodes (side true) + nodes (side false))
 

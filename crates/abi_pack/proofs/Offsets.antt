@@ -1,5 +1,5 @@
 -- Parts that stand at an offset in bytes.
-use Rattle.std.proofs.Common.{◌≡◌, ℕ, ◌+◌, List, [], ◌∷◌, ◌++◌, ◌-◌, ◌≤◌, length, take, drop, length-drop, Bool, ◌&&◌, refl, ap, ◌∙◌, sym, subst, arith}
+use Rattle.std.proofs.Common.{◌≡◌, ℕ, ◌+◌, List, [], ◌∷◌, ◌++◌, ◌-◌, ◌≤◌, length, take, drop, length-drop, Bool, ◌&&◌, refl, ap, ◌∙◌, sym, arith}
 use mathlib.Core.Path.{fun_ext}
 use Rattle.std.proofs.lemmas.List.{get_or-drop}
 use Rattle.std.proofs.Math.Seq.{take-length}
@@ -9,7 +9,7 @@ use Rattle.abi_det.specs.State.{is_state_ok, IsCovered}
 use Rattle.abi_det.specs.declared.determinant.Determinant.{Determinant}
 use Rattle.abi_pack.specs.ByteMap.{ByteMap, seen_from, bytes_of}
 use Rattle.abi_pack.specs.Plain.{Plain, Plains, list, variant, end, more}
-use Rattle.abi_layout.specs.Shape.{Shape, sum, size}
+use Rattle.abi_layout.specs.Shape.{Shape, size}
 use Rattle.abi_pack.specs.Shows.{start_of}
 use Rattle.abi_layout.specs.Trees.{sides}
 use Rattle.abi_pack.specs.Consistent.{IsConsistent}
@@ -22,6 +22,7 @@ use Rattle.abi_layout.specs.declared.part.Part.{Part}
 use Rattle.abi_layout.specs.declared.part.Part.TheVariants as part
 use Rattle.abi_pack.specs.declared.value.Value.{Value}
 use Rattle.abi_pack.specs.declared.value.Value.TheVariants as value
+use Rattle.abi_pack.proofs.ShownValues.{shown_state, told_state}
 use Rattle.abi_pack.proofs.Views.{shape_sum, plain_list}
 use Rattle.abi_pack.proofs.Steps.{struct_is, sum_covered}
 
@@ -35,15 +36,6 @@ pub state_at : (d : Determinant) (xs : List ℕ) (at : ℕ) (b : Bool) → b ≡
 state_at d xs at b e = sym (e ∙ ap (is_state_ok d) (dropped xs at))
 
 -- ---- a sum
-
-shown_state : (names : Sort) (side : Bool → Shape) (at : SumLayout) (first : Bool) (g : ByteMap) → is_state_ok at.determinant g ≡ first
-    → is_shown (side first) (seen_from (start_of at first) g) ≡ is_shown (sum names side at) g
-shown_state names side at first g e = subst (λ b. is_shown (side b) (seen_from (start_of at b) g) ≡ is_shown (sum names side at) g) e refl
-
-told_state : (names : Sort) (side : Bool → Shape) (at : SumLayout) (first : Bool) (g : ByteMap) → is_state_ok at.determinant g ≡ first
-    → variant names first (value_shown (side first) (seen_from (start_of at first) g)) ≡ value_shown (sum names side at) g
-told_state names side at first g e =
-    subst (λ b. variant names b (value_shown (side b) (seen_from (start_of at b) g)) ≡ value_shown (sum names side at) g) e refl
 
 pub shown_sum : (p q : Part) (names : Sort) (a b : Box Part Global) (at : SumLayout) (first : Bool) (f : ByteMap) (o x : ℕ) (r : Bool)
     → p ≡ part.Sum names a b at → shape q ≡ sides (shape a.value) (shape b.value) first → is_state_ok at.determinant (seen_from o f) ≡ first

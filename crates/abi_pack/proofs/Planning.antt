@@ -1,6 +1,5 @@
 -- From what the functions compute to what the calls of a plan promise. q is the plan as it is kept, p as contracts see it.
 use Rattle.std.proofs.Common.{◌≡◌, ◌↔◌, ℕ, ◌≤◌, List, None, length, Bool, true, false, ap, ◌∙◌, sym, subst, arith}
-use mathlib.Core.Path.{fun_ext}
 use Rattle.abi_num.specs.declared.target.Target.{Target}
 use Rattle.abi_det.specs.Offers.{Rules}
 use Rattle.abi_layout.specs.Faults.{desc_fault}
@@ -18,12 +17,9 @@ use Rattle.abi_pack.specs.Reading.{IsShown}
 use Rattle.abi_pack.specs.Shows as of_shape
 use Rattle.abi_pack.specs.ValueShown.{is_shown, value_shown}
 use Rattle.abi_pack.specs.Values.{fits, Shows, IsLong, IsImageOf}
-use Rattle.abi_pack.proofs.Lawful.{faultless_covered, faultless_small, packed_image}
+use Rattle.abi_pack.proofs.Lawful.{faultless_covered, faultless_small, faultless_fits, faultless_shows, packed_image}
 use Rattle.abi_pack.proofs.ShownValues.{shown_value, shown_where}
-use Rattle.abi_pack.proofs.TreeValues.{same_size, same_fits, same_shows}
-
-pub from_zero : (f : ByteMap) → seen_from 0 f ≡ f
-from_zero f = fun_ext (λ i. ap f (omega arith))
+use Rattle.abi_pack.proofs.TreeValues.{from_zero, same_size}
 
 -- the part of a description without a fault keeps what every plan's keeps
 pub plan_kept : (rules : Rules) (target : Target) (t : Tree) (s : Shape) → desc_fault rules target t ≡ None → s ≡ shape_of rules target t → IsNamed s → IsPlanShape s
@@ -32,17 +28,17 @@ plan_kept rules target t s none is named =
     let same = same_size rules target t in
     record { sound = rw is (faultless_covered rules target t none).sound; named = named; small = rw is (omega (arith, small, same)) }
 
-pub plan_fits : (q p : Packing) (v : Plain) (r : Bool) → q ≡ p → r ≡ of_shape.fits (shape q.part) v → OfPlan p (λ _ target t. r ≡ fits target t v)
+pub plan_fits : (q p : Packing) (v : Plain) (r : Bool) → q ≡ p → r ≡ of_shape.fits (shape q.part) v → OfPlan p (λ rules target t. r ≡ fits rules target t v)
 plan_fits q p v r e is =
-    subst (λ x. OfPlan x (λ _ target t. r ≡ fits target t v)) e
-    (λ rules target t of. is ∙ ap (λ s. of_shape.fits s v) of.part ∙ sym (same_fits rules target t v))
+    subst (λ x. OfPlan x (λ rules target t. r ≡ fits rules target t v)) e
+    (λ rules target t of. is ∙ ap (λ s. of_shape.fits s v) of.part ∙ sym (faultless_fits rules target t v of.faultless))
 
 -- a value that fits may be written
-pub plan_value : (q p : Packing) (v : Plain) → q ≡ p → IsSomePlan q → OfPlan p (λ _ target t. fits target t v ≡ true) → of_shape.fits (shape q.part) v ≡ true
+pub plan_value : (q p : Packing) (v : Plain) → q ≡ p → IsSomePlan q → OfPlan p (λ rules target t. fits rules target t v ≡ true) → of_shape.fits (shape q.part) v ≡ true
 plan_value q p v e some fit =
-    let fit_ : OfPlan q (λ _ target t. fits target t v ≡ true) = subst (λ x. OfPlan x (λ _ target t. fits target t v ≡ true)) (sym e) fit in
+    let fit_ : OfPlan q (λ rules target t. fits rules target t v ≡ true) = subst (λ x. OfPlan x (λ rules target t. fits rules target t v ≡ true)) (sym e) fit in
     let of = some.1.1.1 in
-    ap (λ s. of_shape.fits s v) of.part ∙ sym (same_fits some.0 some.1.0 some.1.1.0 v) ∙ fit_ some.0 some.1.0 some.1.1.0 of
+    ap (λ s. of_shape.fits s v) of.part ∙ sym (faultless_fits some.0 some.1.0 some.1.1.0 v of.faultless) ∙ fit_ some.0 some.1.0 some.1.1.0 of
 
 -- there is room where there are as many bytes as the layout has
 pub plan_room : (q p : Packing) (n : ℕ) → q ≡ p → IsSomePlan q → n ≡ p.layout.size → n ≡ size (shape q.part)
@@ -50,7 +46,7 @@ plan_room q p n e some long =
     let of = some.1.1.1 in
     long ∙ ap (λ (x : Packing). x.layout.size) (sym e) ∙ ap (λ f. f.size) of.layout ∙ sym (same_size some.0 some.1.0 some.1.1.0) ∙ sym (ap size of.part)
 
-pub plan_written : (q p : Packing) (v : Plain) (out : List ℕ) → q ≡ p → OfPlan p (λ _ target t. fits target t v ≡ true) → out ≡ packed (shape q.part) v
+pub plan_written : (q p : Packing) (v : Plain) (out : List ℕ) → q ≡ p → OfPlan p (λ rules target t. fits rules target t v ≡ true) → out ≡ packed (shape q.part) v
     → OfPlan p (λ rules target t. IsImageOf rules target t v out)
 plan_written q p v out e fit is rules target t of =
     let same : out ≡ packed (shape_of rules target t) v = is ∙ ap (λ (x : Packing). packed (shape x.part) v) e ∙ ap (λ s. packed s v) of.part in
@@ -65,7 +61,7 @@ plan_shows : (q p : Packing) (v : Plain) (f : ByteMap) (rules : Rules) (target :
     → of_shape.Shows (shape q.part) v f ↔ Shows rules target t v f
 plan_shows q p v f rules target t e of bytes =
     let is : shape q.part ≡ shape_of rules target t = ap (λ (x : Packing). shape x.part) e ∙ of.part in
-    let same = same_shows rules target t v f bytes in
+    let same = faultless_shows rules target t v f of.faultless bytes in
     (λ h. same.1 (subst (λ s. of_shape.Shows s v f) is h), λ h. subst (λ s. of_shape.Shows s v f) (sym is) (same.0 h))
 
 -- ---- reading

@@ -1,8 +1,8 @@
--- Primitives in the forms that the code meets.
+-- Scalars in the forms that the code meets.
 use Rattle.std.proofs.Common.{◌≡◌, ℕ, ◌+◌, ◌<◌, ◌≤◌, List, [], ◌∷◌, length, set, take, drop, false, refl, ap, ◌∙◌, sym, arith, length-drop}
 use Rattle.std.proofs.lemmas.List.{ext_get_or, get_or-take, get_or-drop, length-take-le}
 use Rattle.abi_pack.specs.ByteMap.{seen_from, firsts, bytes_of}
-use Rattle.abi_pack.specs.Plain.{Plain, unit, integer, boolean, is_unit, is_boolean, is_integer}
+use Rattle.abi_pack.specs.Plain.{Plain, unit, integer, boolean, order, is_unit, is_boolean, is_order, is_integer}
 use Rattle.abi_layout.specs.Prims.{width_size}
 use Rattle.abi_pack.specs.Scalars.{is_value, low_worth, ordered, number_in}
 use Rattle.abi_layout.specs.declared.scalar.Scalar.TheVariants as scalars
@@ -16,6 +16,10 @@ no_unit _ = refl
 pub no_boolean : (v : Plain) → is_value scalars.Bool v ≡ is_boolean v
 no_boolean (boolean b) = refl
 no_boolean _ = refl
+
+pub no_order : (v : Plain) → is_value scalars.Order v ≡ is_order v
+no_order (order o) = refl
+no_order _ = refl
 
 pub no_integer : (f : Integer) (v : Plain) → is_integer v ≡ false → is_value (scalars.Int f) v ≡ false
 no_integer f (integer magnitude negative) h = absurd (cc)

@@ -35,12 +35,12 @@ pub desc_to_run : {A : Type 0} (rules : Rules) (target : Target) (t : Tree) (v :
 desc_to_run rules target t v e (Ok x) h is = tt
 desc_to_run rules target t v e (Err error) h is = desc_to_job rules target t v e error h is
 
-pub wrong_value : (p : Packing) (rules : Rules) (target : Target) (t : Tree) (v : Plain) → IsPlanOf p rules target t → OfPlan p (λ _ target t. false ≡ fits target t v)
+pub wrong_value : (p : Packing) (rules : Rules) (target : Target) (t : Tree) (v : Plain) → IsPlanOf p rules target t → OfPlan p (λ rules target t. false ≡ fits rules target t v)
     → job_fault rules target t v ≡ Some fault.WrongValue
 unfolding job_fault
 wrong_value p rules target t v of other = rw (of.faultless, ← other rules target t of) refl
 
-pub no_job_fault : (p : Packing) (rules : Rules) (target : Target) (t : Tree) (v : Plain) → IsPlanOf p rules target t → OfPlan p (λ _ target t. true ≡ fits target t v)
+pub no_job_fault : (p : Packing) (rules : Rules) (target : Target) (t : Tree) (v : Plain) → IsPlanOf p rules target t → OfPlan p (λ rules target t. true ≡ fits rules target t v)
     → job_fault rules target t v ≡ None
 unfolding job_fault
 no_job_fault p rules target t v of fit = rw (of.faultless, ← fit rules target t of) refl
@@ -51,7 +51,7 @@ unfolding image_of
 image_made p rules target t v bytes of is = rw (is, of.part, of.layout, of.sums) refl
 
 pub image_canonical : (p : Packing) (rules : Rules) (target : Target) (t : Tree) (v : Plain) (bytes : List ℕ) → IsPlanOf p rules target t
-    → OfPlan p (λ _ target t. true ≡ fits target t v) → bytes ≡ packed (shape p.part) v → IsImageOf rules target t v bytes
+    → OfPlan p (λ rules target t. true ≡ fits rules target t v) → bytes ≡ packed (shape p.part) v → IsImageOf rules target t v bytes
 image_canonical p rules target t v bytes of fit is = rw (is, of.part) (packed_image rules target t v of.faultless (sym (fit rules target t of)))
 
 -- ---- the law
@@ -71,5 +71,5 @@ fits_if false e = absurd (cc)
 pub image_law : ImageLaw
 unfolding job_fault image_of
 image_law rules target t v h =
-    let n = neither (option_map of_description (desc_fault rules target t)) (value_fault target t v) h in
-    packed_image rules target t v (unmapped of_description (desc_fault rules target t) n.0) (fits_if (fits target t v) n.1)
+    let n = neither (option_map of_description (desc_fault rules target t)) (value_fault rules target t v) h in
+    packed_image rules target t v (unmapped of_description (desc_fault rules target t) n.0) (fits_if (fits rules target t v) n.1)

@@ -74,7 +74,7 @@ array_one p one item len whole e same some =
 pub row_size_next : (n i : ℕ) (s : Shape) → i < n → size_in (repeated (n - i) s) ≡ size s + size_in (repeated (n - (i + 1)) s)
 row_size_next n i s h = rw (row_next n i s h) (omega arith)
 
-from_nothing : (f : ByteMap) → seen_from 0 f ≡ f
+pub from_nothing : (f : ByteMap) → seen_from 0 f ≡ f
 from_nothing f = fun_ext (λ i. ap f (omega arith))
 
 shown_next : (n i : ℕ) (s : Shape) (f : ByteMap) (o x y : ℕ) → i < n → x ≡ o → y ≡ o + size s

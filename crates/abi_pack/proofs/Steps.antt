@@ -7,6 +7,8 @@ use Rattle.std.proofs.lemmas.Bool.Decides.{nat_tests}
 use Rattle.std.specs.declared.boxed.Box.{Box}
 use Rattle.std.specs.declared.alloc.Global.{Global}
 use Rattle.abi_bits.specs.Pairs.{Pair, are_below}
+use Rattle.abi_bits.specs.Forbidden.{items, are_items_below}
+use Rattle.abi_bits.specs.declared.forbidden_values.ForbiddenValues.{ForbiddenValues}
 use Rattle.abi_det.specs.SoundPlacement.{IsTest}
 use Rattle.abi_det.specs.State.{IsCovered}
 use Rattle.abi_det.specs.declared.determinant.Test.{Test}
@@ -23,9 +25,10 @@ use Rattle.abi_layout.specs.declared.part.SumLayout.{SumLayout}
 use Rattle.abi_layout.specs.declared.part.PartField.{PartField}
 use Rattle.abi_layout.specs.declared.part.Part.{Part}
 use Rattle.abi_layout.specs.declared.part.Part.TheVariants as part
+use Rattle.abi_pack.proofs.Cleared.{solid_items_below}
 use Rattle.abi_pack.proofs.Choice.{and_both, and_first, and_second}
 use Rattle.abi_pack.proofs.Nodes.{nodes, variant_fewer}
-use Rattle.abi_pack.proofs.Views.{shape_struct, shape_sum}
+use Rattle.abi_pack.proofs.Views.{shape_raw, shape_struct, shape_sum}
 
 -- ---- a struct
 
@@ -41,6 +44,12 @@ struct_within p fs all n o m e same sound within =
     let is = struct_is p fs all n e same in
     let whole : size (shape p) ≡ n = ap size is in
     let less : size_in (shapes fs) ≤ n = (rw is at sound).1 in omega arith
+
+-- ---- bytes as they stand
+
+pub raw_below : (p : Part) (n : ℕ) (free : List Pair) (forbidden : ForbiddenValues) → p ≡ part.Raw n free forbidden → IsConsistent (shape p)
+    → are_items_below n (items forbidden) ≡ true
+raw_below p n free forbidden e sound = solid_items_below n free (items forbidden) (rw (e, shape_raw n free forbidden) at sound).1
 
 -- ---- tests
 

@@ -1,7 +1,7 @@
--- Primitives: the bytes in which a value stands show it, and legal bytes are those of the value that they show.
-use Rattle.std.specs.Prelude.{nat_lt, nat_le}
+-- Scalars: the bytes in which a value stands show it, and legal bytes are those of the value that they show.
+use Rattle.std.specs.Prelude.{nat_lt}
 use Rattle.std.specs.List.{list_any}
-use Rattle.std.proofs.Common.{◌≡◌, ℕ, zero, suc, ◌-◌, ◌*◌, ◌<◌, ◌≤◌, List, [], ◌∷◌, ◌++◌, length, get_or, ◌⊎◌, inl, inr, ◌==◌, Bool, true, false, cond, ◌&&◌, ◌||◌, refl, ap, ◌∙◌, sym, arith, lit<, length-append}
+use Rattle.std.proofs.Common.{◌≡◌, ℕ, zero, suc, ◌-◌, ◌<◌, ◌≤◌, List, [], ◌∷◌, ◌++◌, length, get_or, ◌⊎◌, inl, inr, ◌==◌, Bool, true, false, cond, ◌&&◌, ◌||◌, refl, ap, ◌∙◌, sym, subst, arith, lit<, length-append}
 use Rattle.std.proofs.lemmas.Bool.{cases_lt}
 use Rattle.std.proofs.lemmas.Bool.Decides.{nat_tests}
 use Rattle.std.proofs.lemmas.List.{ext_get_or, get_or-append_right, get_or_append_left}
@@ -10,92 +10,48 @@ use Rattle.std.proofs.lemmas.List.Folds.{list_all-append}
 use Rattle.abi_bits.specs.Pairs.{Pair, is_matched}
 use Rattle.abi_bits.specs.Forbidden.{is_match}
 use Rattle.abi_pack.specs.ByteMap.{ByteMap, AreBytes, firsts}
-use Rattle.abi_pack.specs.Plain.{Plain, unit, integer, boolean}
-use Rattle.abi_layout.specs.Prims.{width_size, scalar_size, zero_bytes, scalar_items}
-use Rattle.abi_pack.specs.Scalars.{full, half, is_int, is_value, low_bytes, low_worth, ordered, coded, stored, number_in, is_legal, integer_shown, scalar_shown, ShowsScalar}
+use Rattle.abi_pack.specs.Plain.{Plain, unit, integer, boolean, order}
+use Rattle.abi_layout.specs.Prims.{width_size, scalar_size, in_width, zero_bytes, scalar_items}
+use Rattle.abi_pack.specs.Scalars.{full, digits_of, encoded, decoded, is_int, is_value, low_bytes, low_worth, ordered, order_byte, coded, stored, number_in, is_legal, signed_integer, integer_shown, order_shown, scalar_shown, ShowsScalar}
+use Rattle.std.specs.declared.cmp.Ordering.{Ordering}
+use Rattle.std.specs.declared.cmp.Ordering.TheVariants as ordering
 use Rattle.abi_layout.specs.declared.scalar.Scalar.{Scalar}
 use Rattle.abi_layout.specs.declared.scalar.Scalar.TheVariants as scalars
 use Rattle.abi_layout.specs.declared.scalar.Integer.{Integer}
-use Rattle.abi_layout.specs.declared.scalar.Width.{Width}
-use Rattle.abi_layout.specs.declared.scalar.Width.TheVariants as width
+use Rattle.abi_pack.proofs.Coding.{HasDigits, digits_small, digits_told, told_digits, encoded_small, decoded_small, decoded_encoded, encoded_decoded}
 use Rattle.abi_pack.proofs.Choice.{branch, and_first, and_second, and_both}
 use Rattle.abi_pack.proofs.Numbers.{AllBytes, low_length, low_small, low_back, low_again, low_bound, ordered_twice, ordered_length, ordered_small, ordered_each, no_worth}
 
-pub halves : (w : Width) → full w ≡ 2 * half w
-halves width.One = refl
-halves width.Two = refl
-halves width.Four = refl
-halves width.Eight = refl
-halves width.Sixteen = refl
-
-pub some_half : (w : Width) → 0 < half w
-some_half width.One = lit< tt
-some_half width.Two = lit< tt
-some_half width.Four = lit< tt
-some_half width.Eight = lit< tt
-some_half width.Sixteen = lit< tt
-
--- what an integer of the c is stored as, and what that tells
+-- the number that stands for an integer is of the width, stands for that integer alone, and is one that may stand in the bytes
 pub record IsCoded (f : Integer) (m : ℕ) (negative : Bool) : Type 0 where
   pub small : coded f m negative < full f.width
   pub told : integer_shown f (coded f m negative) ≡ integer m negative
   pub legal : (f.zero || nat_lt 0 (coded f m negative)) ≡ true
 
-told_low : (f : Integer) (x : ℕ) → (f.signed && nat_le (half f.width) x) ≡ false → integer_shown f x ≡ integer x false
-told_low f x e = rw e refl
-
-told_high : (f : Integer) (x : ℕ) → (f.signed && nat_le (half f.width) x) ≡ true → integer_shown f x ≡ integer (full f.width - x) true
-told_high f x e = rw e refl
-
-or_positive : (p : Bool) (x : ℕ) → 0 < x → (p || nat_lt 0 x) ≡ true
-or_positive p x h = grind (arith, nat_tests)
-
-below_half : (signed : Bool) (w : Width) (m : ℕ) → nat_lt m (cond signed (half w) (full w)) ≡ true
-    → (m < full w) × ((signed && nat_le (half w) m) ≡ false)
-below_half true w m h = let double : full w ≡ 2 * half w = halves w in (grind (arith, nat_tests), grind (arith, nat_tests))
-below_half false w m h = (grind (arith, nat_tests), refl)
-
 pub int_coded : (f : Integer) (m : ℕ) (negative : Bool) → is_int f m negative ≡ true → IsCoded f m negative
-int_coded f m true h =
-    let signed : f.signed ≡ true = and_first f.signed _ h in
-    let rest : (nat_lt 0 m && nat_le m (half f.width)) ≡ true = and_second f.signed _ h in
-    let positive : 0 < m = grind (arith, nat_tests) in
-    let low : m ≤ half f.width = grind (arith, nat_tests) in
-    let double : full f.width ≡ 2 * half f.width = halves f.width in
-    let some : 0 < half f.width = some_half f.width in
-    let high : nat_le (half f.width) (full f.width - m) ≡ true = grind (arith, nat_tests) in
-    let back : full f.width - (full f.width - m) ≡ m = omega arith in
+int_coded f m negative h =
+    let placed : in_width f.width f.signed m negative ≡ true = and_first (in_width f.width f.signed m negative) _ h in
+    let below : digits_of f.width m negative < full f.width = digits_small f.width m negative in
     record {
-      small = omega arith;
-      told = told_high f (full f.width - m) (and_both f.signed _ signed high) ∙ ap (λ n. integer n true) back;
-      legal = or_positive f.zero (full f.width - m) (omega arith);
+      small = encoded_small f.width f.stored (digits_of f.width m negative) below;
+      told = ap (signed_integer f) (decoded_encoded f.width f.stored (digits_of f.width m negative) below) ∙ digits_told f m negative placed;
+      legal = and_second (in_width f.width f.signed m negative) _ h;
     }
-int_coded f m false h =
-    let some : (f.zero || nat_lt 0 m) ≡ true = and_first (f.zero || nat_lt 0 m) _ h in
-    let low : nat_lt m (cond f.signed (half f.width) (full f.width)) ≡ true = and_second (f.zero || nat_lt 0 m) _ h in
-    let both = below_half f.signed f.width m low in
-    record { small = both.0; told = told_low f m both.1; legal = some }
 
 pub record IsToldInt (f : Integer) (x : ℕ) (v : Plain) : Type 0 where
   pub value : is_value (scalars.Int f) v ≡ true
   pub same : stored (scalars.Int f) v ≡ ordered f.little (low_bytes (width_size f.width) x)
 
-is_high : (signed : Bool) (w : Width) (x : ℕ) → x < full w → (signed && nat_le (half w) x) ≡ true
-    → (signed && (nat_lt 0 (full w - x) && nat_le (full w - x) (half w))) ≡ true
-is_high true w x s h = let double : full w ≡ 2 * half w = halves w in grind (arith, nat_tests)
-is_high false w x s h = absurd (cc)
-
-is_low : (signed : Bool) (w : Width) (x : ℕ) → x < full w → (signed && nat_le (half w) x) ≡ false
-    → nat_lt x (cond signed (half w) (full w)) ≡ true
-is_low true w x s h = grind (arith, nat_tests)
-is_low false w x s h = grind (arith, nat_tests)
-
 pub int_again : (f : Integer) (x : ℕ) → x < full f.width → (f.zero || nat_lt 0 x) ≡ true → IsToldInt f x (integer_shown f x)
 int_again f x small some =
-    branch (IsToldInt f x) (f.signed && nat_le (half f.width) x) (integer (full f.width - x) true) (integer x false)
-    (λ e. let back : full f.width - (full f.width - x) ≡ x = omega arith in
-    record { value = is_high f.signed f.width x small e; same = ap (λ n. ordered f.little (low_bytes (width_size f.width) n)) back })
-    (λ e. record { value = and_both (f.zero || nat_lt 0 x) _ some (is_low f.signed f.width x small e); same = refl })
+    let d : ℕ = decoded f.width f.stored x in
+    let has : HasDigits f d (signed_integer f d) = told_digits f d (decoded_small f.width f.stored x small) in
+    let again : coded f has.magnitude has.negative ≡ x = ap (encoded f.width f.stored) has.digits ∙ encoded_decoded f.width f.stored x small in
+    let legal : (f.zero || nat_lt 0 (coded f has.magnitude has.negative)) ≡ true = rw again some in
+    subst (IsToldInt f x) (sym has.is) (record {
+      value = and_both (in_width f.width f.signed has.magnitude has.negative) _ has.placed legal;
+      same = ap (λ n. ordered f.little (low_bytes (width_size f.width) n)) again;
+    })
 
 -- ---- the first bytes of an image
 
@@ -126,15 +82,23 @@ firsts_small (suc n) f b i = small_step n f b i (cases_lt i (suc n))
 pub stored_length : (c : Scalar) (v : Plain) → is_value c v ≡ true → length (stored c v) ≡ scalar_size c
 stored_length scalars.Unit unit h = refl
 stored_length scalars.Bool (boolean b) h = refl
+stored_length scalars.Order (order o) h = refl
 stored_length (scalars.Int f) (integer m negative) h =
     ordered_length f.little (low_bytes (width_size f.width) (coded f m negative)) ∙ low_length (width_size f.width) (coded f m negative)
 stored_length _ _ h = absurd (cc)
+
+order_small : (o : Ordering) → order_byte o < 256
+order_small ordering.Less = lit< tt
+order_small ordering.Equal = lit< tt
+order_small ordering.Greater = lit< tt
 
 pub stored_small : (c : Scalar) (v : Plain) → is_value c v ≡ true → AllBytes (stored c v)
 stored_small scalars.Unit unit h i = lit< tt
 stored_small scalars.Bool (boolean true) h zero = lit< tt
 stored_small scalars.Bool (boolean false) h zero = lit< tt
 stored_small scalars.Bool (boolean b) h (suc i) = lit< tt
+stored_small scalars.Order (order o) h zero = order_small o
+stored_small scalars.Order (order o) h (suc i) = lit< tt
 stored_small (scalars.Int f) (integer m negative) h i =
     ordered_small f.little _ (low_small (width_size f.width) (coded f m negative)) i
 stored_small _ _ h i = absurd (cc)
@@ -152,10 +116,21 @@ number_shown f m negative g shown =
 
 -- ---- bytes that show a value are legal
 
+order_legal : (o : Ordering) (x : ℕ) → x ≡ order_byte o → (nat_lt x 2 || x == 255) ≡ true
+order_legal ordering.Less x e = rw e refl
+order_legal ordering.Equal x e = rw e refl
+order_legal ordering.Greater x e = rw e refl
+
+order_told : (o : Ordering) → order_shown (order_byte o) ≡ o
+order_told ordering.Less = refl
+order_told ordering.Equal = refl
+order_told ordering.Greater = refl
+
 pub shown_legal : (c : Scalar) (v : Plain) (g : ByteMap) → ShowsScalar c v g → is_legal c g ≡ true
 shown_legal scalars.Unit unit g shown = refl
 shown_legal scalars.Bool (boolean true) g shown = let one : g 0 ≡ 1 = shown.same 0 (lit< tt) in grind (arith, nat_tests)
 shown_legal scalars.Bool (boolean false) g shown = let none : g 0 ≡ 0 = shown.same 0 (lit< tt) in grind (arith, nat_tests)
+shown_legal scalars.Order (order o) g shown = order_legal o (g 0) (shown.same 0 (lit< tt))
 shown_legal (scalars.Int f) (integer m negative) g shown = rw (number_shown f m negative g shown) (int_coded f m negative shown.value).legal
 shown_legal _ _ g shown = absurd (let h = shown.value in cc)
 
@@ -165,6 +140,7 @@ shown_told scalars.Bool (boolean true) g shown =
     let one : g 0 ≡ 1 = shown.same 0 (lit< tt) in let test : nat_lt 0 (g 0) ≡ true = grind (arith, nat_tests) in rw test refl
 shown_told scalars.Bool (boolean false) g shown =
     let none : g 0 ≡ 0 = shown.same 0 (lit< tt) in let test : nat_lt 0 (g 0) ≡ false = grind (arith, nat_tests) in rw test refl
+shown_told scalars.Order (order o) g shown = ap order (sym (ap order_shown (shown.same 0 (lit< tt)) ∙ order_told o))
 shown_told (scalars.Int f) (integer m negative) g shown = sym (rw (number_shown f m negative g shown) (int_coded f m negative shown.value).told)
 shown_told _ _ g shown = absurd (let h = shown.value in cc)
 
@@ -185,9 +161,19 @@ int_shown f g b legal =
     told.same ∙ ap (ordered f.little) again ∙ ordered_twice f.little (firsts n g) in
     record { value = told.value; same = λ i h. sym (rw same (firsts_at n g i h)) }
 
+-- a legal byte is that of the order which it shows
+order_again : (x : ℕ) → (nat_lt x 2 || x == 255) ≡ true → order_byte (order_shown x) ≡ x
+order_again x h =
+    branch (λ o. order_byte o ≡ x) (x == 0) ordering.Equal (cond (x == 1) ordering.Greater ordering.Less) (λ zero_. grind (arith, nat_tests))
+    (λ some. branch (λ o. order_byte o ≡ x) (x == 1) ordering.Greater ordering.Less (λ one. grind (arith, nat_tests)) (λ more. grind (arith, nat_tests)))
+
 pub legal_shown : (c : Scalar) (g : ByteMap) → AreBytes g → is_legal c g ≡ true → ShowsScalar c (scalar_shown c g) g
 legal_shown scalars.Unit g b legal = record { value = refl; same = λ i h. absurd (omega arith) }
 legal_shown scalars.Bool g b legal = bool_shown g (nat_lt 0 (g 0)) refl legal
+legal_shown scalars.Order g b legal = record {
+  value = refl;
+  same = λ i l. let first : i ≡ 0 = omega arith in rw first (sym (order_again (g 0) legal));
+}
 legal_shown (scalars.Int f) g b legal = int_shown f g b legal
 
 pub number_bound : (f : Integer) (g : ByteMap) → AreBytes g → number_in f g < full f.width
@@ -196,7 +182,7 @@ number_bound f g b =
     rw (ordered_length f.little (firsts n g), firsts_length n g) at
     (low_bound (ordered f.little (firsts n g)) (ordered_small f.little (firsts n g) (firsts_small n g b)))
 
--- ---- bytes that show a value match none of the primitive's items
+-- ---- bytes that show a value match none of the scalar's items
 
 abbrev has_pair : ByteMap → Pair → Bool
 has_pair g p = g p.0 == p.1
@@ -238,17 +224,9 @@ pub scalar_allowed : (c : Scalar) (v : Plain) (g : ByteMap) → ShowsScalar c v 
 scalar_allowed scalars.Unit v g shown = refl
 scalar_allowed scalars.Bool v g shown =
     let low : nat_lt (g 0) 2 ≡ true = shown_legal scalars.Bool v g shown in grind (arith, nat_tests)
+scalar_allowed scalars.Order v g shown =
+    let legal : (nat_lt (g 0) 2 || g 0 == 255) ≡ true = shown_legal scalars.Order v g shown in grind (arith, nat_tests)
 scalar_allowed (scalars.Int f) v g shown =
     let legal : (f.zero || nat_lt 0 (number_in f g)) ≡ true = shown_legal (scalars.Int f) v g shown in
     branch (λ its. list_any (is_match g) its ≡ false) f.zero [] _ (λ _. refl)
     (λ none. or_false (is_matched (zero_bytes (width_size f.width)) g) (is_no_zero f g none legal _ refl))
-
-pub int_small : (f : Integer) (m : ℕ) (negative : Bool) → is_int f m negative ≡ true → (coded f m negative < full f.width) × (negative ≡ true → (0 < m) × (m ≤ full f.width))
-int_small f m negative h = ((int_coded f m negative h).small, λ e. positive f m negative h e)
-  where
-    positive : (f : Integer) (m : ℕ) (negative : Bool) → is_int f m negative ≡ true → negative ≡ true → (0 < m) × (m ≤ full f.width)
-    positive f m true h e =
-        let rest : (nat_lt 0 m && nat_le m (half f.width)) ≡ true = and_second f.signed _ h in
-        let double : full f.width ≡ 2 * half f.width = halves f.width in
-        (grind (arith, nat_tests), grind (arith, nat_tests))
-    positive f m false h e = absurd (cc)

@@ -1,6 +1,6 @@
 -- The plain form of each kind of part and of value.
 use Rattle.std.proofs.Common.{◌≡◌, ℕ, List, Bool, true, false, rules}
-pub use Rattle.abi_layout.proofs.PartViews.{shape_scalar, shape_struct, shape_array, shape_sum}
+pub use Rattle.abi_layout.proofs.PartViews.{shape_scalar, shape_raw, shape_struct, shape_array, shape_sum}
 use Rattle.std.specs.declared.boxed.Box.{Box}
 use Rattle.std.specs.declared.alloc.Global.{Global}
 use Rattle.std.specs.declared.cmp.Ordering.{Ordering}

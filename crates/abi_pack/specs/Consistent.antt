@@ -2,9 +2,10 @@
 use Rattle.std.specs.Prelude.{◌≡◌, ℕ, ◌+◌, ◌<◌, ◌≤◌, Bool, true, false}
 use Rattle.abi_det.specs.State.{test_holds, is_tested}
 use Rattle.abi_det.specs.SoundPlacement.{is_imposed, IsTest}
+use Rattle.abi_pack.specs.Atoms.{IsAtom}
 use Rattle.abi_pack.specs.ByteMap.{ByteMap, seen_from}
 use Rattle.abi_pack.specs.Plain.{Plain}
-use Rattle.abi_layout.specs.Shape.{Shape, Shapes, scalar, fields, sum, last, field, size, size_in}
+use Rattle.abi_layout.specs.Shape.{Shape, Shapes, atom, fields, sum, last, field, size, size_in}
 use Rattle.abi_pack.specs.Shows.{Shows, holds, start_of, sign_of, held_at}
 use Rattle.abi_layout.specs.declared.part.SumLayout.{SumLayout}
 
@@ -23,7 +24,7 @@ pub record IsSumLayout (side : Bool → Shape) (at : SumLayout) : Type 0 where
 
 abbrev mutual
   pub IsConsistent : Shape → Type 0
-  IsConsistent (scalar c) = Unit {0}
+  IsConsistent (atom a) = IsAtom a
   IsConsistent (fields compound n fs) = AreConsistent fs × (size_in fs ≤ n)
   IsConsistent (sum names side at) = ((first : Bool) → IsConsistent (side first)) × IsSumLayout side at
 

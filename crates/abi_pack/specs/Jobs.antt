@@ -21,15 +21,17 @@ abbrev pub of_description : DescError → AbiError
 of_description of_desc.BadTarget = fault.BadTarget
 of_description of_desc.TooManyParts = fault.TooManyParts
 of_description (of_desc.IllFormed part) = fault.IllFormed part
+of_description (of_desc.ArrayLength part) = fault.ArrayLength part
+of_description (of_desc.NotStable part) = fault.NotStable part
 of_description (of_desc.TooLarge part) = fault.TooLarge part
 of_description of_desc.OutOfMemory = fault.OutOfMemory
 
-abbrev pub value_fault : Target → Tree → Plain → Option AbiError
-value_fault target t v = if fits target t v then None else Some fault.WrongValue
+abbrev pub value_fault : Rules → Target → Tree → Plain → Option AbiError
+value_fault rules target t v = if fits rules target t v then None else Some fault.WrongValue
 
 -- the first fault of the description, then that of the value
 unfoldable pub job_fault : Rules → Target → Tree → Plain → Option AbiError
-job_fault rules target t v = or_else (option_map of_description (desc_fault rules target t)) (value_fault target t v)
+job_fault rules target t v = or_else (option_map of_description (desc_fault rules target t)) (value_fault rules target t v)
 
 -- an error that is the fault, or want of memory
 abbrev pub IsJobFault : Option AbiError → AbiError → Type 0

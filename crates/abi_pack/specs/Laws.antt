@@ -1,5 +1,5 @@
 -- Laws of packed bytes, of descriptions without a fault, under either rules. Bit k of the byte at i has the number 8 * i + k.
-use Rattle.std.specs.Prelude.{◌≡◌, ℕ, ◌*◌, ◌/◌, ◌%◌, ◌^◌, ◌<◌, ◌↔◌, List, None, true, false, ◌==◌, bit_xor, if◌then◌else◌}
+use Rattle.std.specs.Prelude.{◌≡◌, ℕ, ◌*◌, ◌/◌, ◌%◌, ◌^◌, ◌<◌, ◌↔◌, List, Some, None, true, false, ◌==◌, bit_xor, if◌then◌else◌}
 use Rattle.std.specs.Int.{bit_at}
 use Rattle.std.specs.List.{list_any}
 use Rattle.abi_num.specs.declared.target.Target.{Target}
@@ -12,6 +12,7 @@ use Rattle.abi_layout.specs.Trees.{Tree}
 use Rattle.abi_pack.specs.ByteMap.{ByteMap, AreBytes, bytes_of}
 use Rattle.abi_pack.specs.Jobs.{job_fault, image_of}
 use Rattle.abi_pack.specs.Plain.{Plain}
+use Rattle.abi_pack.specs.Reading.{value_read}
 use Rattle.abi_pack.specs.Values.{fits, Shows, holds, IsLong, IsImageOf}
 
 abbrev pub bit_of : ByteMap → ℕ → ℕ
@@ -39,18 +40,18 @@ module _ (rules : Rules) (target : Target) (t : Tree) where
 
 -- every value that fits has exactly one canonical byte string
 abbrev pub CanonicalLaw : Type 0
-CanonicalLaw = (rules : Rules) (target : Target) (t : Tree) (v : Plain) → Faultless rules target t → fits target t v ≡ true
+CanonicalLaw = (rules : Rules) (target : Target) (t : Tree) (v : Plain) → Faultless rules target t → fits rules target t v ≡ true
     → (bs : List ℕ) × IsImageOf rules target t v bs × ((cs : List ℕ) → IsImageOf rules target t v cs → cs ≡ bs)
 
 -- bytes show at most one value
 abbrev pub UniqueLaw : Type 0
-UniqueLaw = (rules : Rules) (target : Target) (t : Tree) (v w : Plain) (f : ByteMap) → AreBytes f
+UniqueLaw = (rules : Rules) (target : Target) (t : Tree) (v w : Plain) (f : ByteMap) → Faultless rules target t → AreBytes f
     → Shows rules target t v f → Shows rules target t w f → v ≡ w
 
 -- a value that bytes show fits
 abbrev pub FitLaw : Type 0
-FitLaw = (rules : Rules) (target : Target) (t : Tree) (v : Plain) (f : ByteMap) → AreBytes f
-    → Shows rules target t v f → fits target t v ≡ true
+FitLaw = (rules : Rules) (target : Target) (t : Tree) (v : Plain) (f : ByteMap) → Faultless rules target t → AreBytes f
+    → Shows rules target t v f → fits rules target t v ≡ true
 
 -- bytes show a value exactly where they agree with its canonical bytes at every bit that it holds
 abbrev pub HeldLaw : Type 0
@@ -89,8 +90,13 @@ PackedLaw = (rules : Rules) (target : Target) (t : Tree) (v w : Plain) (bs cs : 
 
 -- canonical bytes show the value and no other, so reading what was packed gives it back
 abbrev pub BackLaw : Type 0
-BackLaw = (rules : Rules) (target : Target) (t : Tree) (v w : Plain) (bs : List ℕ) → IsImageOf rules target t v bs
+BackLaw = (rules : Rules) (target : Target) (t : Tree) (v w : Plain) (bs : List ℕ) → Faultless rules target t → IsImageOf rules target t v bs
     → Shows rules target t w (bytes_of bs) ↔ (w ≡ v)
+
+-- what is read of bytes is the value that they show, and nothing exactly where they show none
+abbrev pub ReadLaw : Type 0
+ReadLaw = (rules : Rules) (target : Target) (t : Tree) (v : Plain) (bs : List ℕ) → Faultless rules target t → AreBytes (bytes_of bs)
+    → (value_read rules target t bs ≡ Some v) ↔ (IsLong rules target t bs × Shows rules target t v (bytes_of bs))
 
 -- the image of a job without a fault has the canonical bytes of its value
 abbrev pub ImageLaw : Type 0

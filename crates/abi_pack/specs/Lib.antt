@@ -1,11 +1,14 @@
 pub mod Agree
+pub mod Atoms
 pub mod ByteMap
+pub mod Counting
 pub mod Jobs
 pub mod Laws
 pub mod Packed
 pub mod Packing
 pub mod Plain
 pub mod PlanShape
+pub mod Raw
 pub mod Reading
 pub mod Scalars
 pub mod Shows

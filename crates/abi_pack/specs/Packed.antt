@@ -2,8 +2,8 @@
 use Rattle.std.specs.Prelude.{ℕ, ◌+◌, ◌-◌, List, [], ◌++◌, replicate}
 use Rattle.abi_det.specs.State.{imposed}
 use Rattle.abi_pack.specs.Plain.{Plain, Plains, list, variant, end, more}
-use Rattle.abi_pack.specs.Scalars.{stored}
-use Rattle.abi_layout.specs.Shape.{Shape, Shapes, scalar, fields, sum, last, field, size}
+use Rattle.abi_pack.specs.Atoms.{atom_bytes}
+use Rattle.abi_layout.specs.Shape.{Shape, Shapes, atom, fields, sum, last, field, size}
 use Rattle.abi_pack.specs.Shows.{start_of, sign_of}
 
 abbrev pub zeros : ℕ → List ℕ
@@ -15,7 +15,7 @@ zero_padded total shift n xs = zeros shift ++ (xs ++ zeros (total - (shift + n))
 
 abbrev mutual
   pub packed : Shape → Plain → List ℕ
-  packed (scalar c) v = stored c v
+  packed (atom a) v = atom_bytes a v
   packed (fields compound n fs) (list vs) = packed_in n fs vs
   packed (sum names side at) (variant kind first v) =
       imposed at.determinant.test (sign_of at first) (zero_padded at.size (start_of at first) (size (side first)) (packed (side first) v))

@@ -1,5 +1,5 @@
 -- Values as plain data.
-use Rattle.std.specs.Prelude.{ℕ, List, Bool, true, false}
+use Rattle.std.specs.Prelude.{ℕ, List, [], Bool, true, false}
 use Rattle.std.specs.declared.cmp.Ordering.{Ordering}
 use Rattle.abi_layout.specs.declared.part.Sort.{Sort}
 
@@ -30,6 +30,18 @@ is_integer _ = false
 abbrev pub is_boolean : Plain → Bool
 is_boolean (boolean b) = true
 is_boolean _ = false
+
+abbrev pub is_order : Plain → Bool
+is_order (order o) = true
+is_order _ = false
+
+abbrev pub is_bytes : Plain → Bool
+is_bytes (bytes xs) = true
+is_bytes _ = false
+
+abbrev pub bytes_in : Plain → List ℕ
+bytes_in (bytes xs) = xs
+bytes_in _ = []
 
 abbrev pub is_list : Plain → Bool
 is_list (list vs) = true

@@ -1,11 +1,14 @@
 -- What reading bytes may answer, and by which cause.
-use Rattle.std.specs.Prelude.{ℕ, List, Result, Ok, Err}
+use Rattle.std.specs.Prelude.{ℕ, List, length, ◌&&◌, ◌==◌, Option, Some, None, Result, Ok, Err, if◌then◌else◌}
 use Rattle.abi_num.specs.declared.target.Target.{Target}
 use Rattle.abi_det.specs.Offers.{Rules}
+use Rattle.abi_layout.specs.Frames.{written_frame}
+use Rattle.abi_layout.specs.Plans.{shape_of}
 use Rattle.abi_layout.specs.Trees.{Tree}
 use Rattle.abi_pack.specs.ByteMap.{bytes_of}
 use Rattle.abi_pack.specs.Plain.{Plain}
 use Rattle.abi_pack.specs.Values.{Shows, IsLong}
+use Rattle.abi_pack.specs.ValueShown.{is_shown, value_shown}
 use Rattle.abi_pack.specs.View.{plain}
 use Rattle.abi_pack.specs.declared.plan.ReadError.{ReadError}
 use Rattle.abi_pack.specs.declared.plan.ReadError.TheVariants as error
@@ -14,6 +17,13 @@ use Rattle.abi_pack.specs.declared.value.Value.{Value}
 -- as many bytes as the description has, which show some value
 abbrev pub IsShown : Rules → Target → Tree → List ℕ → Type 0
 IsShown rules target t bs = IsLong rules target t bs × ((v : Plain) × Shows rules target t v (bytes_of bs))
+
+-- what reading computes: the value that the bytes show, where they are as many as the description has and show one
+abbrev pub value_read : Rules → Target → Tree → List ℕ → Option Plain
+value_read rules target t bs =
+    if length bs == (written_frame rules target t).size && is_shown (shape_of rules target t) (bytes_of bs)
+    then Some (value_shown (shape_of rules target t) (bytes_of bs))
+    else None
 
 abbrev pub IsReadError : Rules → Target → Tree → List ℕ → ReadError → Type 0
 IsReadError rules target t bs error.WrongLength = IsLong rules target t bs → ⊥

@@ -4,8 +4,8 @@ use Rattle.std.specs.Int.{bit_at}
 use Rattle.abi_det.specs.State.{is_state_ok}
 use Rattle.abi_pack.specs.ByteMap.{ByteMap, seen_from}
 use Rattle.abi_pack.specs.Plain.{Plain, Plains, list, variant, end, more}
-use Rattle.abi_pack.specs.Scalars.{is_value, ShowsScalar, scalar_holds}
-use Rattle.abi_layout.specs.Shape.{Shape, Shapes, scalar, fields, sum, last, field, size}
+use Rattle.abi_pack.specs.Atoms.{has_value, ShowsAtom, atom_holds}
+use Rattle.abi_layout.specs.Shape.{Shape, Shapes, atom, fields, sum, last, field, size}
 pub use Rattle.abi_pack.specs.Variants.{same_sort, truth_of, held_at, holds_test}
 use Rattle.abi_layout.specs.declared.part.SumLayout.{SumLayout}
 
@@ -21,7 +21,7 @@ sign_of at first = truth_of at.determinant first
 -- the value is one of the shape's
 abbrev mutual
   pub fits : Shape → Plain → Bool
-  fits (scalar c) v = is_value c v
+  fits (atom a) v = has_value a v
   fits (fields compound n fs) (list vs) = fits_in fs vs
   fits (sum names side at) (variant kind first v) = same_sort names kind && fits (side first) v
   fits _ _ = false
@@ -34,7 +34,7 @@ abbrev mutual
 -- the bytes show the value
 abbrev mutual
   pub Shows : Shape → Plain → ByteMap → Type 0
-  Shows (scalar c) v f = ShowsScalar c v f
+  Shows (atom a) v f = ShowsAtom a v f
   Shows (fields compound n fs) (list vs) f = ShowIn fs vs f
   Shows (sum names side at) (variant kind first v) f =
       (same_sort names kind ≡ true) × (is_state_ok at.determinant f ≡ first) × Shows (side first) v (seen_from (start_of at first) f)
@@ -48,7 +48,7 @@ abbrev mutual
 -- the value holds bit k of byte i
 abbrev mutual
   pub holds : Shape → Plain → ℕ → ℕ → Bool
-  holds (scalar c) v i k = scalar_holds c i k
+  holds (atom a) v i k = atom_holds a i k
   holds (fields compound n fs) (list vs) i k = holds_in fs vs i k
   holds (sum names side at) (variant kind first v) i k =
       held_at (start_of at first) (size (side first)) (λ j l. holds (side first) v j l) i k || holds_test at.determinant first i k

@@ -3,14 +3,14 @@ use Rattle.std.specs.Prelude.{◌+◌, Bool, true, ◌&&◌}
 use Rattle.abi_det.specs.State.{is_state_ok}
 use Rattle.abi_pack.specs.ByteMap.{ByteMap, seen_from}
 use Rattle.abi_pack.specs.Plain.{Plain, Plains, list, variant, end, more}
-use Rattle.abi_pack.specs.Scalars.{is_legal, scalar_shown}
-use Rattle.abi_layout.specs.Shape.{Shape, Shapes, scalar, fields, sum, last, field, size}
+use Rattle.abi_pack.specs.Atoms.{is_legal_atom, atom_shown}
+use Rattle.abi_layout.specs.Shape.{Shape, Shapes, atom, fields, sum, last, field, size}
 use Rattle.abi_pack.specs.Shows.{start_of}
 
 -- the bytes show some value
 abbrev mutual
   pub is_shown : Shape → ByteMap → Bool
-  is_shown (scalar c) f = is_legal c f
+  is_shown (atom a) f = is_legal_atom a f
   is_shown (fields compound n fs) f = is_shown_in fs f
   is_shown (sum names side at) f = is_shown (side (is_state_ok at.determinant f)) (seen_from (start_of at (is_state_ok at.determinant f)) f)
 
@@ -21,7 +21,7 @@ abbrev mutual
 -- the value that they then show
 abbrev mutual
   pub value_shown : Shape → ByteMap → Plain
-  value_shown (scalar c) f = scalar_shown c f
+  value_shown (atom a) f = atom_shown a f
   value_shown (fields compound n fs) f = list (values_shown fs f)
   value_shown (sum names side at) f =
       variant names (is_state_ok at.determinant f)

@@ -8,10 +8,20 @@ use abi_num::OutOfMemory;
 pub enum AbiError {
     /// The target is not a supported one.
     BadTarget,
-    /// There are more than 4,096 parts.
+    /// There are more than `MAX_PARTS` parts.
     TooManyParts,
     /// The part breaks a rule of its form.
     IllFormed {
+        /// The part's number.
+        part: u32,
+    },
+    /// The array has more than `MAX_LEN` items.
+    ArrayLength {
+        /// The part's number.
+        part: u32,
+    },
+    /// The sum is none that the compiler lays out in the same way everywhere.
+    NotStable {
         /// The part's number.
         part: u32,
     },
@@ -46,6 +56,8 @@ impl From<DescError> for AbiError {
             DescError::BadTarget => AbiError::BadTarget,
             DescError::TooManyParts => AbiError::TooManyParts,
             DescError::IllFormed { part } => AbiError::IllFormed { part },
+            DescError::ArrayLength { part } => AbiError::ArrayLength { part },
+            DescError::NotStable { part } => AbiError::NotStable { part },
             DescError::TooLarge { part } => AbiError::TooLarge { part },
             DescError::OutOfMemory => AbiError::OutOfMemory,
         }

@@ -1,21 +1,28 @@
 ghost use Rattle.std.specs.Prelude.{◌≡◌};
 ghost use Rattle.abi_layout.specs.Shape.{repeated};
+ghost use Rattle.abi_pack.specs.Consistent.{IsConsistent, AreConsistent};
 ghost use Rattle.abi_pack.specs.Shows.{fits, fits_in};
 ghost use Rattle.abi_pack.specs.View.{shape, shapes, plain, plains};
 
-use crate::scalars;
 use crate::sides::{is_same, side};
 use crate::value::Value;
+use crate::{raw, scalars};
 use abi_layout::{Part, PartField};
 
 /// Whether the value is one of the part's.
 #[cycle(fits)]
 #[tactic(auto, using(crate::proofs::Fitting::fits_scalar, crate::proofs::Fitting::fits_struct, crate::proofs::Fitting::fits_array, crate::proofs::Fitting::fits_variant, crate::proofs::Fitting::fits_no_list, crate::proofs::Fitting::fits_no_items, crate::proofs::Fitting::fits_no_variant))]
 pub(crate) fn fits(part: &Part, value: &Value) -> bool
+    requires sound { IsConsistent (shape part.now) }
     ensures { result ≡ fits (shape part.now) (plain value.now) }
 {
     match part {
         Part::Scalar(scalar) => scalars::has(scalar, value),
+        Part::Raw {
+            size,
+            free,
+            forbidden,
+        } => raw::has(*size, free, forbidden, value),
         Part::Struct { fields, .. } => match value.as_list() {
             Some(values) => fit_all(fields.as_slice(), values),
             None => false,
@@ -40,6 +47,7 @@ pub(crate) fn fits(part: &Part, value: &Value) -> bool
 /// Whether there is one value for each field, and each is one of its field's.
 #[cycle(fits)]
 fn fit_all(fields: &[PartField], values: &[Value]) -> bool
+    requires sound { AreConsistent (shapes fields.now) }
     ensures { result ≡ fits_in (shapes fields.now) (plains values.now) }
 {
     match (fields.split_first(), values.split_first()) {
@@ -56,6 +64,7 @@ fn fit_all(fields: &[PartField], values: &[Value]) -> bool
 #[cycle(fits)]
 #[tactic(auto, using(crate::proofs::Rows::row_other_count))]
 fn fit_each(item: &Part, len: u64, values: &[Value]) -> bool
+    requires sound { AreConsistent (repeated len (shape item.now)) }
     ensures { result ≡ fits_in (repeated len (shape item.now)) (plains values.now) }
 {
     if values.len() as u64 != len {

@@ -1,13 +1,13 @@
-ghost use Rattle.std.specs.Prelude.{◌≡◌, true, ◌+◌, ◌-◌, ◌<◌, ◌≤◌, length, if◌then◌else◌};
-ghost use Rattle.abi_layout.specs.Prims.{width_size};
-ghost use Rattle.abi_pack.specs.Scalars.{full, is_int, low_bytes, low_worth, ordered, coded, integer_shown};
+ghost use Rattle.std.specs.Prelude.{◌≡◌, true, ◌+◌, ◌-◌, ◌%◌, ◌<◌, ◌≤◌, length, if◌then◌else◌};
+ghost use Rattle.abi_layout.specs.Prims.{width_size, in_width};
+ghost use Rattle.abi_pack.specs.Scalars.{full, digits_of, encoded, decoded, coded, is_int, signed_integer, integer_shown, low_bytes, low_worth, ordered};
 ghost use Rattle.abi_pack.specs.View.{plain};
 
 use crate::value::Value;
-use abi_layout::{Integer, Width};
+use abi_layout::{Integer, Stored, Width};
 
 /// The greatest number that stands in that many bytes.
-pub(crate) fn greatest(width: Width) -> u128
+fn greatest(width: Width) -> u128
     ensures { result + 1 ≡ full width }
 {
     match width {
@@ -19,31 +19,84 @@ pub(crate) fn greatest(width: Width) -> u128
     }
 }
 
+/// Whether the integer has a place in the width; no 0 lies below 0.
+fn in_width(width: Width, signed: bool, magnitude: u128, negative: bool) -> bool
+    ensures { result ≡ in_width width signed magnitude negative }
+{
+    let most = greatest(width);
+    if negative {
+        signed && 0 < magnitude && magnitude <= most / 2 + 1
+    } else if signed {
+        magnitude <= most / 2
+    } else {
+        magnitude <= most
+    }
+}
+
 /// Whether the integer is one of its kind's.
 pub(crate) fn has_integer(integer: &Integer, magnitude: u128, negative: bool) -> bool
     ensures { result ≡ is_int integer.now magnitude negative }
 {
-    let most = greatest(integer.width);
-    let positive = 0 < magnitude;
+    if !in_width(integer.width, integer.signed, magnitude, negative) {
+        return false;
+    }
+    integer.zero || 0 < coded_integer(integer, magnitude, negative)
+}
+
+/// The number that stands for the integer, which has a place in the width.
+fn coded_integer(integer: &Integer, magnitude: u128, negative: bool) -> u128
+    requires { in_width integer.now.width integer.now.signed magnitude negative ≡ true }
+    ensures { result ≡ coded integer.now magnitude negative }
+{
+    encoded(
+        integer.width,
+        integer.stored,
+        digits_of(integer.width, magnitude, negative),
+    )
+}
+
+/// The integer in as many binary digits as the width has: two's complement.
+#[tactic(auto, using(crate::proofs::Coding::last_digits, crate::proofs::Coding::negated_digits))]
+fn digits_of(width: Width, magnitude: u128, negative: bool) -> u128
+    ensures same { result ≡ digits_of width magnitude negative }
+    ensures small { result < full width }
+{
     if negative {
-        integer.signed && positive && magnitude <= most / 2 + 1
-    } else if integer.signed {
-        (integer.zero || positive) && magnitude <= most / 2
+        magnitude.wrapping_neg() & greatest(width)
     } else {
-        (integer.zero || positive) && magnitude <= most
+        magnitude & greatest(width)
     }
 }
 
-/// The number that stands for the integer: itself, or its two's complement.
-#[tactic(auto, using(crate::proofs::Stored::int_small))]
-pub(crate) fn coded_integer(integer: &Integer, magnitude: u128, negative: bool) -> u128
-    requires { is_int integer.now magnitude negative ≡ true }
-    ensures { result ≡ coded integer.now magnitude negative }
+/// What number stands for these digits.
+#[tactic(auto, using(crate::proofs::Coding::less_digits))]
+fn encoded(width: Width, stored: Stored, digits: u128) -> u128
+    requires { digits < full width }
+    ensures { result ≡ encoded width stored digits }
 {
-    if negative {
-        greatest(integer.width) - magnitude + 1
-    } else {
-        magnitude
+    match stored {
+        Stored::Itself => digits,
+        Stored::Complement => greatest(width) - digits,
+        Stored::Distance {
+            magnitude,
+            negative,
+        } => digits.wrapping_sub(digits_of(width, magnitude, negative)) & greatest(width),
+    }
+}
+
+/// For which digits the number stands.
+#[tactic(auto, using(crate::proofs::Coding::wrapped_digits))]
+fn decoded(width: Width, stored: Stored, number: u128) -> u128
+    requires { number < full width }
+    ensures { result ≡ decoded width stored number }
+{
+    match stored {
+        Stored::Itself => number,
+        Stored::Complement => greatest(width) - number,
+        Stored::Distance {
+            magnitude,
+            negative,
+        } => number.wrapping_add(digits_of(width, magnitude, negative)) & greatest(width),
     }
 }
 
@@ -52,15 +105,23 @@ pub(crate) fn integer_shown(integer: &Integer, number: u128) -> Value
     requires { number < full integer.now.width }
     ensures { plain result ≡ integer_shown integer.now number }
 {
+    signed_integer(integer, decoded(integer.width, integer.stored, number))
+}
+
+/// The integer of these digits.
+fn signed_integer(integer: &Integer, digits: u128) -> Value
+    requires { digits < full integer.now.width }
+    ensures { plain result ≡ signed_integer integer.now digits }
+{
     let most = greatest(integer.width);
-    if integer.signed && most / 2 < number {
+    if integer.signed && most / 2 < digits {
         Value::Int {
-            magnitude: most - number + 1,
+            magnitude: most - digits + 1,
             negative: true,
         }
     } else {
         Value::Int {
-            magnitude: number,
+            magnitude: digits,
             negative: false,
         }
     }

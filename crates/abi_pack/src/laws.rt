@@ -11,6 +11,7 @@ ghost use Rattle.abi_pack.specs.Laws.{
   ItemLaw,
   PackedLaw,
   BackLaw,
+  ReadLaw,
   ImageLaw,
 };
 
@@ -72,6 +73,12 @@ pub fn equal_bytes_equal_values()
 #[tactic(auto, using(crate::proofs::Lawful::back_law))]
 pub fn packed_value_is_read_back()
     ensures { BackLaw }
+{}
+
+/// What reading computes is the value that bytes show, and nothing exactly where they show none.
+#[tactic(auto, using(crate::proofs::Lawful::read_law))]
+pub fn what_is_read_is_shown()
+    ensures { ReadLaw }
 {}
 
 /// The image of a job without a fault has the canonical bytes of its value.

@@ -1,9 +1,10 @@
 ghost use Rattle.std.specs.Prelude.{◌≡◌, false, MatchOption};
-ghost use Rattle.abi_pack.specs.Plain.{unit as no_bytes, integer, boolean, list, variant, is_unit, is_integer, is_boolean, is_list, is_variant};
+ghost use Rattle.abi_pack.specs.Plain.{unit as no_bytes, integer, boolean, order, bytes, list, variant, is_unit, is_integer, is_boolean, is_order, is_bytes, is_list, is_variant};
 ghost use Rattle.abi_pack.specs.View.{plain, plains};
 
 use crate::value::Value;
 use abi_layout::Sort;
+use std::cmp::Ordering;
 
 /// A value of a sum: what its variants are called, whether it is the first of them, and its payload.
 #[derive(Clone, Copy)]
@@ -40,6 +41,26 @@ impl Value {
     {
         match self {
             Value::Bool(truth) => Some(*truth),
+            _ => None,
+        }
+    }
+
+    /// The order.
+    pub(crate) fn as_order(&self) -> Option<Ordering>
+        ensures { MatchOption result (is_order (plain self.now) ≡ false) (λ o. plain self.now ≡ order o) }
+    {
+        match self {
+            Value::Order(order) => Some(*order),
+            _ => None,
+        }
+    }
+
+    /// The bytes.
+    pub(crate) fn as_bytes(&self) -> Option<&[u8]>
+        ensures { MatchOption result (is_bytes (plain self.now) ≡ false) (λ xs. plain self.now ≡ bytes xs.now) }
+    {
+        match self {
+            Value::Bytes(bytes) => Some(bytes.as_slice()),
             _ => None,
         }
     }

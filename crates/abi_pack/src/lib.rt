@@ -2,6 +2,7 @@
 #![tactic(auto)]
 
 mod abi_error;
+mod counting;
 mod fits;
 mod image;
 mod integer;
@@ -9,6 +10,7 @@ mod jobs;
 pub mod laws;
 mod layers;
 mod plan;
+mod raw;
 mod read;
 mod scalars;
 mod shown;
@@ -21,6 +23,7 @@ mod write;
 
 pub use abi_error::AbiError;
 pub use abi_layout::{Placed, PlacedList};
+pub use counting::MAX_VALUES;
 pub use image::Image;
 pub use jobs::run;
 pub use plan::{Plan, ReadError};

@@ -1,3 +1,4 @@
+use crate::counting::{MAX_VALUES, values};
 use crate::fits::fits;
 use crate::image::Image;
 use crate::read::read;
@@ -18,7 +19,7 @@ pub enum ReadError {
     WrongLength,
     /// There are as many, and they show no value.
     IllegalBytes,
-    /// Memory was refused.
+    /// Memory was refused, or the bytes show a value that has more than `MAX_VALUES` values in it.
     OutOfMemory,
 }
 
@@ -93,7 +94,7 @@ impl Plan {
 
     /// Whether the value is one of the description. Takes no memory.
     pub fn fits(&self, value: &Value) -> bool
-        ensures { OfPlan self.now (λ _ target t. result ≡ fits target t (plain value.now)) }
+        ensures { OfPlan self.now (λ rules target t. result ≡ fits rules target t (plain value.now)) }
     {
         fits(&self.part, value)
     }
@@ -101,7 +102,7 @@ impl Plan {
     /// Writes the canonical bytes of the value, whatever stood there: they show the value, and every bit that it
     /// does not hold is 0. The value must fit, and `out` must be as long as the layout's size. Takes no memory.
     pub fn write(&self, value: &Value, out: &mut [u8])
-        requires fits { OfPlan self.now (λ _ target t. fits target t (plain value.now) ≡ true) }
+        requires fits { OfPlan self.now (λ rules target t. fits rules target t (plain value.now) ≡ true) }
         requires room { length out.old ≡ self.now.layout.size }
         ensures { OfPlan self.now (λ rules target t. IsImageOf rules target t (plain value.now) out.new) }
     {
@@ -110,7 +111,7 @@ impl Plan {
 
     /// The canonical bytes of the value, which must fit.
     pub(crate) fn packed(&self, alloc: Global, value: &Value) -> Result<Bytes, OutOfMemory>
-        requires fits { OfPlan self.now (λ _ target t. fits target t (plain value.now) ≡ true) }
+        requires fits { OfPlan self.now (λ rules target t. fits rules target t (plain value.now) ≡ true) }
         ensures bytes { IfOk result (λ bytes. bytes ≡ packed (shape self.now.part) (plain value.now)) }
     {
         let bytes = packed(alloc, &self.part, value)?;
@@ -147,6 +148,9 @@ impl Plan {
         }
         if !is_shown(&self.part, bytes, 0) {
             return Err(ReadError::IllegalBytes);
+        }
+        if MAX_VALUES < values(&self.part, bytes, 0) {
+            return Err(ReadError::OutOfMemory);
         }
         match read(alloc, &self.part, bytes, 0) {
             Ok(value) => Ok(value),

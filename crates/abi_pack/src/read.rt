@@ -8,9 +8,9 @@ ghost use Rattle.abi_layout.specs.Plans.{IsNamed, AreNamed};
 ghost use Rattle.abi_pack.specs.ValueShown.{value_shown, values_shown};
 ghost use Rattle.abi_pack.specs.View.{shape, shapes, plain, joined};
 
-use crate::scalars;
 use crate::sides::{side, size, start};
 use crate::value::{Value, Values};
+use crate::{raw, scalars};
 use abi_layout::{Part, PartField, Sort};
 use abi_num::{Items, OutOfMemory};
 use std::alloc::Global;
@@ -31,6 +31,10 @@ pub(crate) fn read(
 {
     match part {
         Part::Scalar(scalar) => Ok(scalars::value_shown(scalar, bytes, at)),
+        Part::Raw { size, free, .. } => {
+            let value = raw::value_shown(alloc, *size, free, bytes, at)?;
+            Ok(value)
+        }
         Part::Struct { fields, .. } => {
             let mut values = Items::new(alloc);
             read_all(alloc, fields.as_slice(), bytes, at, &mut values)?;

@@ -5,8 +5,8 @@ ghost use Rattle.abi_pack.specs.Consistent.{IsConsistent, AreConsistent};
 ghost use Rattle.abi_pack.specs.ValueShown.{is_shown, is_shown_in};
 ghost use Rattle.abi_pack.specs.View.{shape, shapes};
 
-use crate::scalars;
 use crate::sides::{side, size, start};
+use crate::{raw, scalars};
 use abi_layout::{Part, PartField};
 
 /// Whether the bytes from `at` on show a value of the part.
@@ -19,6 +19,11 @@ pub(crate) fn is_shown(part: &Part, bytes: &[u8], at: usize) -> bool
 {
     match part {
         Part::Scalar(scalar) => scalars::is_legal(scalar, bytes, at),
+        Part::Raw {
+            size,
+            forbidden,
+            ..
+        } => raw::is_legal(*size, forbidden, bytes, at),
         Part::Struct { fields, .. } => are_shown(fields.as_slice(), bytes, at),
         Part::Array { item, len, .. } => each_shown(item, *len, bytes, at),
         Part::Sum {

@@ -53,6 +53,7 @@ pub(crate) fn size(part: &Part) -> usize
 {
     match part {
         Part::Scalar(scalar) => scalar.size() as usize,
+        Part::Raw { size, .. } => *size as usize,
         Part::Struct { size, .. } => *size as usize,
         Part::Array { size, .. } => *size as usize,
         Part::Sum { sum_layout, .. } => sum_layout.size as usize,

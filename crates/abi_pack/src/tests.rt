@@ -486,3 +486,30 @@ fn bytes_that_are_not_read(rt: HostRuntime) {
     assert!(rt; plan.read(alloc, &[1, 2]).err() == Some(ReadError::IllegalBytes));
     assert!(rt; plan.read(alloc, &[1]).err() == Some(ReadError::WrongLength));
 }
+
+/// Arrays of arrays, 128 items each, so many deep; the innermost items are `()`.
+fn units(rt: &impl Abort, alloc: Global, depth: u32) -> Desc {
+    let mut desc = Desc::Prim(Prim::Unit);
+    for _ in 0..depth {
+        desc = Desc::Array {
+            item: Box::new(alloc, desc).expect(rt, "memory"),
+            len: 128,
+        };
+    }
+    desc
+}
+
+#[test]
+fn items_without_bytes_are_read_up_to_a_number(rt: HostRuntime) {
+    let alloc = rt.alloc();
+    // 128 * 128 units in 128 lists, in one
+    let few = plan(&rt, alloc, "le64", &units(&rt, alloc, 2));
+    match few.read(alloc, &[]) {
+        Ok(Value::List(lists)) => assert!(rt; lists.as_slice().len() == 128),
+        _ => panic!(rt; "not read"),
+    }
+    // 128 ^ 4 units are 2 ^ 28
+    let many = plan(&rt, alloc, "le64", &units(&rt, alloc, 4));
+    assert!(rt; many.shown(&[]));
+    assert!(rt; matches!(many.read(alloc, &[]), Err(ReadError::OutOfMemory)));
+}

@@ -5,9 +5,9 @@ ghost use Rattle.abi_pack.specs.Shows.{fits, fits_in};
 ghost use Rattle.abi_pack.specs.Consistent.{IsConsistent, AreConsistent};
 ghost use Rattle.abi_pack.specs.View.{shape, shapes, plain, plains};
 
-use crate::scalars;
 use crate::sides::{name_variant, side, size, start};
 use crate::value::{Bytes, Value};
+use crate::{raw, scalars};
 use abi_layout::{Part, PartField};
 use abi_num::{Items, OutOfMemory};
 use std::alloc::Global;
@@ -35,16 +35,15 @@ pub(crate) fn write(part: &Part, value: &Value, out: &mut [u8])
 {
     match part {
         Part::Scalar(scalar) => scalars::write(scalar, value, out),
-        Part::Struct { fields, .. } => {
-            if let Some(values) = value.as_list() {
-                write_all(fields.as_slice(), values, out);
-            }
-        }
-        Part::Array { item, len, .. } => {
-            if let Some(values) = value.as_list() {
-                write_each(item, *len, values, out);
-            }
-        }
+        Part::Raw { .. } => raw::write(value, out),
+        Part::Struct { fields, .. } => match value.as_list() {
+            Some(values) => write_all(fields.as_slice(), values, out),
+            None => unreachable!(),
+        },
+        Part::Array { item, len, .. } => match value.as_list() {
+            Some(values) => write_each(item, *len, values, out),
+            None => unreachable!(),
+        },
         Part::Sum {
             ok,
             err,

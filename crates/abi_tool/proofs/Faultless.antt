@@ -19,7 +19,7 @@ pub neither : {A : Type 0} (a b : Option A) → or_else a b ≡ None → (a ≡ 
 neither None b e = (refl, e)
 neither (Some x) b e = absurd (cc)
 
-unmapped : {A B : Type 0} (f : A → B) (a : Option A) → option_map f a ≡ None → a ≡ None
+pub unmapped : {A B : Type 0} (f : A → B) (a : Option A) → option_map f a ≡ None → a ≡ None
 unmapped f None e = refl
 unmapped f (Some x) e = absurd (cc)
 
@@ -37,16 +37,16 @@ pub record IsFaultless (rules : Rules) (target : Target) (t : Tree) (v : Plain) 
   pub desc : desc_fault rules target t ≡ None
   pub row : is_row target ≡ true
   pub parts : part_fault rules target 0 t ≡ None
-  pub fit : fits target t v ≡ true
+  pub fit : fits rules target t v ≡ true
 
-described : (rules : Rules) (target : Target) (t : Tree) → desc_fault rules target t ≡ None → (is_row target ≡ true) × (part_fault rules target 0 t ≡ None)
+pub described : (rules : Rules) (target : Target) (t : Tree) → desc_fault rules target t ≡ None → (is_row target ≡ true) × (part_fault rules target 0 t ≡ None)
 unfolding desc_fault
 described rules target t e = row_if (is_row target) (ltb 4096 (parts t)) (part_fault rules target 0 t) e
 
 pub faultless : (rules : Rules) (target : Target) (t : Tree) (v : Plain) → job_fault rules target t v ≡ None → IsFaultless rules target t v
 unfolding job_fault
 faultless rules target t v e =
-    let n = neither (option_map of_description (desc_fault rules target t)) (value_fault target t v) e in
+    let n = neither (option_map of_description (desc_fault rules target t)) (value_fault rules target t v) e in
     let none = unmapped of_description (desc_fault rules target t) n.0 in
     let d = described rules target t none in
-    record { desc = none; row = d.0; parts = d.1; fit = fits_if (fits target t v) n.1 }
+    record { desc = none; row = d.0; parts = d.1; fit = fits_if (fits rules target t v) n.1 }

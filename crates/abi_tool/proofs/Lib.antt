@@ -1,10 +1,14 @@
+pub mod Done
+pub mod EachSum
 pub mod Entries
 pub mod Faults
 pub mod Faultless
 pub mod Known
+pub mod LaysOut
 pub mod Outcomes
 pub mod Packs
 pub mod ReadingLemmas
 pub mod ReplyMeans
 pub mod ReplyToBytes
-pub mod Sized
+pub mod Showing
+pub mod Tasks

@@ -1,5 +1,6 @@
--- What status 0 of `pack` says: an image with the written layout was written, which shows the job's value and no other.
-use Rattle.std.specs.Prelude.{◌≡◌, ◌↔◌, ℕ, ◌+◌, ◌*◌, ◌<◌, List, Bool, true, false, Option, Some, None, length}
+-- What status 0 says: of `pack`, that an image with the written layout was written, which shows the job's value and no other; of
+-- `layout`, that the written layout was; of `read`, that the one value was that the bytes show.
+use Rattle.std.specs.Prelude.{◌≡◌, ◌≢◌, ◌↔◌, ℕ, ◌+◌, ◌*◌, ◌<◌, List, [], Bool, true, false, Option, Some, None, length}
 use Rattle.std.specs.List.{list_any}
 use Rattle.std.specs.Io.KnownBytes.{Appends}
 use Rattle.serde_json.specs.Data.{Data}
@@ -11,8 +12,12 @@ use Rattle.abi_det.specs.Frame.{Frame}
 use Rattle.abi_det.specs.Roles.{larger, smaller, is_place, union_size, sum_align}
 use Rattle.abi_det.specs.Offers.{One}
 use Rattle.abi_det.specs.Niches.{IsNiche, OffersNone}
+use Rattle.abi_det.specs.Refusals.{AreComplete}
+use Rattle.abi_det.specs.Written.{written_placement, written_sum}
 use Rattle.abi_det.specs.declared.placements.Kind.{Kind}
+use Rattle.abi_det.specs.declared.placements.Kind.TheVariants as kind
 use Rattle.abi_det.specs.declared.determinant.Test.{Test}
+use Rattle.abi_layout.specs.Faults.{desc_fault}
 use Rattle.abi_layout.specs.Frames.{written_frame}
 use Rattle.abi_layout.specs.Sums.{written_sums}
 use Rattle.abi_layout.specs.Trees as trees
@@ -23,9 +28,9 @@ use Rattle.abi_pack.specs.Laws.{bit_of}
 use Rattle.abi_pack.specs.Plain.{Plain}
 use Rattle.abi_pack.specs.Values.{Shows, IsCanonical}
 use Rattle.abi_pack.specs.declared.image.Image.{Image}
-use Rattle.abi_document.specs.Documents.{pack, job_of}
-use Rattle.abi_document.specs.declared.command.Command.TheVariants.{Pack}
-use Rattle.abi_tool.specs.Lines.{image_text}
+use Rattle.abi_document.specs.Documents.{pack, layout, read, job_of}
+use Rattle.abi_document.specs.declared.command.Command.TheVariants.{Pack, Layout, Read}
+use Rattle.abi_tool.specs.Lines.{image_text, layout_text, value_line}
 use Rattle.abi_tool.specs.Reading.{reading}
 
 -- the two images are equal in each bit below the size that is not free
@@ -37,24 +42,41 @@ pub record ShowsOnly (target : Target) (t : Tree) (value : Plain) (image : Bytes
   pub shown : (v : Plain) → Shows One target t v image ↔ (v ≡ value)
   pub allowed : list_any (is_match image) (written_frame One target t).forbids ≡ false
 
+-- ---- the packed sums
+
 -- a sum is as large as its larger variant, rounded up, and by one alignment larger exactly where no existing place offers a niche
-pub record IsSized (ok err whole : Frame) : Type 0 where
+pub record IsSized (ok err : Frame) : Type 0 where
   pub niched : (k : ℕ) (a : Kind) (n : ℕ) (t : Test) → is_place (smaller ok err) (union_size ok err) k ≡ true
-      → IsNiche One (larger ok err) (smaller ok err) (union_size ok err) k a n t → whole.size ≡ union_size ok err
-  pub tagged : OffersNone One (larger ok err) (smaller ok err) (union_size ok err) 8 → whole.size ≡ union_size ok err + sum_align ok err
+      → IsNiche One (larger ok err) (smaller ok err) (union_size ok err) k a n t → (written_sum One ok err).size ≡ union_size ok err
+  pub tagged : OffersNone One (larger ok err) (smaller ok err) (union_size ok err) 8
+      → (written_sum One ok err).size ≡ union_size ok err + sum_align ok err
 
--- each packed sum of the description has its size
+-- with a tag, and only with one, there are refusals: one that holds for each existing place, by rising place
+pub record IsExplained (ok err : Frame) : Type 0 where
+  pub refused : (written_placement One ok err).kind ≡ kind.Tag → AreComplete One ok err (written_placement One ok err).refusals
+  pub niched : (written_placement One ok err).kind ≢ kind.Tag → (written_placement One ok err).refusals ≡ []
+
+-- P holds of the frames of the two variants of each packed sum; those of a pointee and of a condition are none of the description's
 abbrev mutual
-  pub AreSized : Target → Tree → Type 0
-  AreSized target (trees.prim p) = Unit {0}
-  AreSized target (trees.struct label fs align) = AreSizedIn target fs
-  AreSized target (trees.sum names side) =
-      IsSized (written_frame One target (side true)) (written_frame One target (side false)) (written_frame One target (trees.sum names side))
-      × ((first : Bool) → AreSized target (side first))
+  pub EachSum : (Frame → Frame → Type 0) → Target → Tree → Type 0
+  EachSum P target (trees.prim p) = Unit {0}
+  EachSum P target (trees.struct label fs align) = EachSumIn P target fs
+  EachSum P target (trees.array item len) = EachSum P target item
+  EachSum P target (trees.union side) = (first : Bool) → EachSum P target (side first)
+  EachSum P target (trees.sum names side) =
+      P (written_frame One target (side true)) (written_frame One target (side false)) × ((first : Bool) → EachSum P target (side first))
+  EachSum P target (trees.core names side) = (first : Bool) → EachSum P target (side first)
+  EachSum P target (trees.wrap kind t) = EachSum P target t
+  EachSum P target (trees.stable_if value condition) = EachSum P target value
+  EachSum P target (trees.pointer kind t) = Unit {0}
+  EachSum P target (trees.no_niches size align niches indirections) = Unit {0}
+  EachSum P target (trees.leaf l) = Unit {0}
 
-  pub AreSizedIn : Target → Branches → Type 0
-  AreSizedIn target trees.none = Unit {0}
-  AreSizedIn target (trees.field name t fs) = AreSized target t × AreSizedIn target fs
+  pub EachSumIn : (Frame → Frame → Type 0) → Target → Branches → Type 0
+  EachSumIn P target trees.none = Unit {0}
+  EachSumIn P target (trees.field name t fs) = EachSum P target t × EachSumIn P target fs
+
+-- ---- the commands
 
 -- the document was a job without a fault, and what the sink got is the text of an image: of the written layout and sums, as long
 -- as the layout says, canonical for the job's value, and with each image that differs in free bits alone it shows this value only
@@ -70,7 +92,34 @@ pub record Packs (bytes : List ℕ) (old new : Option (List ℕ)) : Type 0 where
   pub wrote : Appends old new (image_text image)
   pub is_layout : image.layout ≡ written_frame One target desc
   pub are_sums : image.placed ≡ written_sums One target 0 desc
-  pub are_sized : AreSized target desc
+  pub are_sized : EachSum IsSized target desc
   pub fills : length image.bytes ≡ image.layout.size
   pub canonical : IsCanonical One target desc value (bytes_of image.bytes)
   pub shows : (f : Bytes) → AreBytes f → AgreesOutside image.layout.free image.layout.size (bytes_of image.bytes) f → ShowsOnly target desc value f
+
+-- the document was a description without a fault, and what the sink got is the text of its written layout and written sums, each
+-- sum with a tag followed by its refusals
+pub record LaysOut (bytes : List ℕ) (old new : Option (List ℕ)) : Type 0 where
+  pub tree : Data
+  pub target : Target
+  pub desc : Tree
+  pub is_read : reading bytes ≡ Some tree
+  pub is_job : job_of Layout tree ≡ Some (record { target = target; task = layout desc })
+  pub no_fault : desc_fault One target desc ≡ None
+  pub wrote : Appends old new (layout_text (written_frame One target desc) (written_sums One target 0 desc))
+  pub are_explained : EachSum IsExplained target desc
+
+-- the document was a description without a fault, with as many bytes as it has; they show one value and no other, and what the
+-- sink got is the line of this value
+pub record Reads (bytes : List ℕ) (old new : Option (List ℕ)) : Type 0 where
+  pub tree : Data
+  pub target : Target
+  pub desc : Tree
+  pub given : List ℕ
+  pub value : Plain
+  pub is_read : reading bytes ≡ Some tree
+  pub is_job : job_of Read tree ≡ Some (record { target = target; task = read desc given })
+  pub no_fault : desc_fault One target desc ≡ None
+  pub fills : length given ≡ (written_frame One target desc).size
+  pub shows : ShowsOnly target desc value (bytes_of given)
+  pub wrote : Appends old new (value_line value)

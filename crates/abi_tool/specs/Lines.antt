@@ -1,5 +1,7 @@
 -- The lines that the program writes. Numbers are decimal.
-use Rattle.std.specs.Prelude.{◌≡◌, ℕ, List, [], ◌∷◌, ◌++◌, Bool, codes, decimal, flat_map, if◌then◌else◌, String, string_bytes}
+use Rattle.std.specs.Prelude.{◌≡◌, ℕ, ◌^◌, List, [], ◌∷◌, ◌++◌, Bool, true, false, nat_le, nat_lt, codes, decimal, flat_map, if◌then◌else◌, String, string_bytes}
+use Rattle.std.specs.declared.cmp.Ordering.{Ordering}
+use Rattle.std.specs.declared.cmp.Ordering.TheVariants as ordering
 use Rattle.std.specs.declared.alloc.Global.{Global}
 use Rattle.hex.specs.Hex.{encode_lower}
 use Rattle.abi_bits.specs.Pairs.{Pair}
@@ -7,11 +9,15 @@ use Rattle.abi_bits.specs.Forbidden.{Item, pattern, range}
 use Rattle.abi_bits.specs.declared.saturating_add_value.SaturatingAddValue.{SaturatingAddValue}
 use Rattle.abi_bits.specs.declared.saturating_add_value.SaturatingAddValue.TheVariants as count
 use Rattle.abi_det.specs.Frame.{Frame}
+use Rattle.abi_det.specs.declared.placements.Refusal.{Refusal}
 use Rattle.abi_det.specs.declared.placements.Kind.{Kind}
 use Rattle.abi_det.specs.declared.placements.Kind.TheVariants as kind
 use Rattle.abi_det.specs.declared.determinant.Test.{Test}
 use Rattle.abi_det.specs.declared.determinant.Test.TheVariants as test
+use Rattle.abi_layout.specs.declared.part.Sort.{Sort}
+use Rattle.abi_layout.specs.declared.part.Sort.TheVariants as sort
 use Rattle.abi_layout.specs.declared.placed.Placed.{Placed}
+use Rattle.abi_pack.specs.Plain.{Plain, Plains, unit, integer, boolean, order, bytes, list, variant, end, more}
 use Rattle.abi_pack.specs.declared.image.Image.{Image}
 use Rattle.abi_tool.specs.declared.fault.Fault.{Fault}
 use Rattle.abi_tool.specs.declared.fault.Fault.TheVariants as fault
@@ -19,6 +25,8 @@ use Rattle.abi_tool.specs.declared.fault.Fault.TheVariants as fault
 -- the text went behind what was written before
 abbrev pub Adds : String Global → String Global → List ℕ → Type 0
 Adds old new text = string_bytes new ≡ string_bytes old ++ text
+
+-- ---- a layout
 
 unfoldable pub size_line : ℕ → List ℕ
 size_line size = codes "size " ++ decimal size ++ codes "\n"
@@ -74,6 +82,8 @@ layout_lines f =
     size_line f.size ++ align_line f.align ++ niches_line f.niches ++ indirections_line f.indirections
     ++ free_line f.free ++ forbidden_line f.forbids
 
+-- ---- sums
+
 -- whose pattern it is
 abbrev pub side_text : Kind → List ℕ
 side_text kind.SmallerPattern = codes "smaller "
@@ -98,6 +108,11 @@ places_text p =
 unfoldable pub sum_line : Placed → List ℕ
 sum_line p = places_text p ++ niche_text p.kind p.determinant.test ++ meaning_text p.determinant.not
 
+unfoldable pub sum_lines : List Placed → List ℕ
+sum_lines ps = flat_map sum_line ps
+
+-- ---- a packed value
+
 abbrev pub digits_text : List ℕ → List ℕ
 digits_text [] = []
 digits_text (b ∷ bs) = codes " " ++ encode_lower (b ∷ bs)
@@ -105,18 +120,105 @@ digits_text (b ∷ bs) = codes " " ++ encode_lower (b ∷ bs)
 unfoldable pub bytes_line : List ℕ → List ℕ
 bytes_line bs = codes "bytes" ++ digits_text bs ++ codes "\n"
 
-unfoldable pub sum_lines : List Placed → List ℕ
-sum_lines ps = flat_map sum_line ps
-
 unfoldable pub image_text : Image → List ℕ
 image_text image = layout_lines image.layout ++ sum_lines image.placed ++ bytes_line image.bytes
+
+-- ---- a layout with what refuses a niche
+
+unfoldable pub offsets_text : List ℕ → List ℕ
+offsets_text offsets = flat_map (λ offset. codes " " ++ decimal offset) offsets
+
+-- the place, and for each pattern of the smaller and of the larger variant a byte in its way
+unfoldable pub refusal_line : Refusal → List ℕ
+refusal_line r =
+    codes "refusal " ++ decimal r.place ++ codes " smaller" ++ offsets_text r.smaller
+    ++ codes " larger" ++ offsets_text r.larger ++ codes "\n"
+
+unfoldable pub refusal_lines : List Refusal → List ℕ
+refusal_lines rs = flat_map refusal_line rs
+
+-- a sum's line, and one line for each of its refusals
+unfoldable pub refused_sum_lines : Placed → List ℕ
+refused_sum_lines p = sum_line p ++ refusal_lines p.refusals
+
+unfoldable pub refused_sums_lines : List Placed → List ℕ
+refused_sums_lines ps = flat_map refused_sum_lines ps
+
+unfoldable pub layout_text : Frame → List Placed → List ℕ
+layout_text f ps = layout_lines f ++ refused_sums_lines ps
+
+-- ---- a value
+
+abbrev pub quoted : List ℕ → List ℕ
+quoted text = codes "\"" ++ text ++ codes "\""
+
+-- the integer of this distance from 0, below it where `negative`
+unfoldable pub numeral_text : ℕ → Bool → List ℕ
+numeral_text magnitude negative = (if negative then codes "-" else []) ++ decimal magnitude
+
+-- a number of JSON lies from -2^63 to 2^64 - 1
+abbrev pub is_number : ℕ → Bool → Bool
+is_number magnitude negative = if negative then nat_le magnitude (2 ^ 63) else nat_lt magnitude (2 ^ 64)
+
+-- other integers are texts
+unfoldable pub integer_text : ℕ → Bool → List ℕ
+integer_text magnitude negative =
+    if is_number magnitude negative then numeral_text magnitude negative else quoted (numeral_text magnitude negative)
+
+unfoldable pub truth_text : Bool → List ℕ
+truth_text truth = if truth then codes "true" else codes "false"
+
+unfoldable pub order_text : Ordering → List ℕ
+order_text ordering.Less = codes "\"less\""
+order_text ordering.Equal = codes "\"equal\""
+order_text ordering.Greater = codes "\"greater\""
+
+-- bytes in lower case
+unfoldable pub hex_text : List ℕ → List ℕ
+hex_text bs = codes "{\"bytes\":\"" ++ encode_lower bs ++ codes "\"}"
+
+-- an object with this key, and a value's text under it
+abbrev pub member_text : List ℕ → List ℕ → List ℕ
+member_text key text = codes "{\"" ++ key ++ codes "\":" ++ text ++ codes "}"
+
+-- a variant, by the text of its payload
+abbrev pub variant_text : Sort → Bool → List ℕ → List ℕ
+variant_text sort.OfResult true text = member_text (codes "ok") text
+variant_text sort.OfResult false text = member_text (codes "err") text
+variant_text sort.OfOption true text = member_text (codes "some") text
+variant_text sort.OfOption false text = codes "\"none\""
+
+abbrev mutual
+  -- a value as a document has it
+  pub value_text : Plain → List ℕ
+  value_text unit = codes "null"
+  value_text (integer magnitude negative) = integer_text magnitude negative
+  value_text (boolean truth) = truth_text truth
+  value_text (order o) = order_text o
+  value_text (bytes bs) = hex_text bs
+  value_text (list vs) = codes "[" ++ values_text [] vs ++ codes "]"
+  value_text (variant names first payload) = variant_text names first (value_text payload)
+
+  -- values in order, with this text before the first and a comma before each other
+  pub values_text : List ℕ → Plains → List ℕ
+  values_text before end = []
+  values_text before (more v vs) = before ++ value_text v ++ values_text (codes ",") vs
+
+unfoldable pub value_line : Plain → List ℕ
+value_line v = codes "value " ++ value_text v ++ codes "\n"
+
+-- ---- refusals of a job
 
 unfoldable pub fault_text : Fault → List ℕ
 fault_text fault.BadTarget = codes "BadTarget"
 fault_text fault.TooManyParts = codes "TooManyParts"
 fault_text (fault.IllFormed part) = codes "IllFormed part " ++ decimal part
+fault_text (fault.ArrayLength part) = codes "ArrayLength part " ++ decimal part
+fault_text (fault.NotStable part) = codes "NotStable part " ++ decimal part
 fault_text (fault.TooLarge part) = codes "TooLarge part " ++ decimal part
 fault_text fault.WrongValue = codes "WrongValue"
+fault_text fault.WrongLength = codes "WrongLength"
+fault_text fault.IllegalBytes = codes "IllegalBytes"
 
 unfoldable pub refused_line : Fault → List ℕ
 refused_line f = codes "refused: " ++ fault_text f ++ codes "\n"

@@ -28,6 +28,8 @@ fn command_named(name: &str) -> Option<Command>
 {
     match name {
         "pack" => Some(Command::Pack),
+        "layout" => Some(Command::Layout),
+        "read" => Some(Command::Read),
         _ => None,
     }
 }

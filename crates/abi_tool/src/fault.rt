@@ -1,6 +1,6 @@
 use std::fmt;
 
-/// What is wrong with a job: the first fault of its description, else that of its value.
+/// What is wrong with a job: the first fault of its description, else that of its value or of its bytes.
 #[derive(Debug, Clone, Copy, PartialEq, Eq)]
 pub enum Fault {
     /// The target is not a supported one.
@@ -12,6 +12,16 @@ pub enum Fault {
         /// The part's number.
         part: u32,
     },
+    /// The array has more items than an array may have.
+    ArrayLength {
+        /// The part's number.
+        part: u32,
+    },
+    /// The sum is none that the compiler lays out in the same way everywhere.
+    NotStable {
+        /// The part's number.
+        part: u32,
+    },
     /// The part is larger than a part may be.
     TooLarge {
         /// The part's number.
@@ -19,6 +29,10 @@ pub enum Fault {
     },
     /// The value is none of the description's.
     WrongValue,
+    /// There are not as many bytes as the description has.
+    WrongLength,
+    /// There are as many, and they show no value.
+    IllegalBytes,
 }
 
 impl fmt::Display for Fault {
@@ -33,8 +47,12 @@ impl fmt::Display for Fault {
             Fault::BadTarget => write!(f, "BadTarget"),
             Fault::TooManyParts => write!(f, "TooManyParts"),
             Fault::IllFormed { part } => write!(f, "IllFormed part {part}"),
+            Fault::ArrayLength { part } => write!(f, "ArrayLength part {part}"),
+            Fault::NotStable { part } => write!(f, "NotStable part {part}"),
             Fault::TooLarge { part } => write!(f, "TooLarge part {part}"),
             Fault::WrongValue => write!(f, "WrongValue"),
+            Fault::WrongLength => write!(f, "WrongLength"),
+            Fault::IllegalBytes => write!(f, "IllegalBytes"),
         }
     }
 }

@@ -1,8 +1,9 @@
 ghost use Rattle.std.specs.Prelude.{◌≡◌};
 
 use crate::fault::Fault;
+use abi_layout::DescError;
 use abi_num::OutOfMemory;
-use abi_pack::AbiError;
+use abi_pack::{AbiError, ReadError};
 
 /// Why no text comes of a job.
 #[derive(Debug, Clone, Copy, PartialEq, Eq)]
@@ -33,9 +34,35 @@ impl From<AbiError> for JobError {
             AbiError::BadTarget => JobError::Fault(Fault::BadTarget),
             AbiError::TooManyParts => JobError::Fault(Fault::TooManyParts),
             AbiError::IllFormed { part } => JobError::Fault(Fault::IllFormed { part }),
+            AbiError::ArrayLength { part } => JobError::Fault(Fault::ArrayLength { part }),
+            AbiError::NotStable { part } => JobError::Fault(Fault::NotStable { part }),
             AbiError::TooLarge { part } => JobError::Fault(Fault::TooLarge { part }),
             AbiError::OutOfMemory => JobError::OutOfMemory,
             AbiError::WrongValue => JobError::Fault(Fault::WrongValue),
+        }
+    }
+}
+
+impl From<DescError> for JobError {
+    ghost use Rattle.abi_tool.specs.Outcomes.{of_describing};
+
+    ghost from_gives = { λ found error. error ≡ of_describing found };
+
+    fn from(error: DescError) -> JobError {
+        JobError::from(AbiError::from(error))
+    }
+}
+
+impl From<ReadError> for JobError {
+    ghost use Rattle.abi_tool.specs.Outcomes.{of_reading};
+
+    ghost from_gives = { λ found error. error ≡ of_reading found };
+
+    fn from(error: ReadError) -> JobError {
+        match error {
+            ReadError::WrongLength => JobError::Fault(Fault::WrongLength),
+            ReadError::IllegalBytes => JobError::Fault(Fault::IllegalBytes),
+            ReadError::OutOfMemory => JobError::OutOfMemory,
         }
     }
 }

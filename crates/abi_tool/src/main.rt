@@ -5,7 +5,15 @@ mod answer;
 mod command;
 mod failed;
 mod fault;
+#[cfg(test)]
+mod fault_tests;
+#[cfg(test)]
+mod form_tests;
 mod job_error;
+#[cfg(test)]
+mod key_tests;
+#[cfg(test)]
+mod layout_tests;
 #[cfg(test)]
 mod library_tests;
 mod mem_sink;
@@ -13,7 +21,11 @@ mod mem_source;
 mod outcome;
 #[cfg(test)]
 mod plan_tests;
+#[cfg(test)]
+mod primitive_tests;
 mod read_all;
+#[cfg(test)]
+mod read_tests;
 mod reading;
 #[cfg(test)]
 mod refused_tests;
@@ -23,12 +35,14 @@ mod sink;
 mod source;
 mod std_sink;
 mod std_source;
+mod sum_text;
+#[cfg(test)]
+mod target_tests;
 #[cfg(test)]
 mod tests;
 mod text;
-#[cfg(test)]
-mod text_tests;
 mod tool;
+mod value_text;
 mod write_all;
 #[cfg(test)]
 mod written_tests;

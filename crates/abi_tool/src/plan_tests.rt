@@ -22,7 +22,7 @@ fn packed(
     value: &Value,
 ) -> Result<Option<Vec<u8>>, DescError>
     ensures { IfOk result (λ found. MatchOption found
-        (fits target.now (tree desc.now) (plain value.now) ≡ false)
+        (fits Rules.One target.now (tree desc.now) (plain value.now) ≡ false)
         (λ bytes. IsImageOf Rules.One target.now (tree desc.now) (plain value.now) bytes.items)) }
 {
     let plan = Plan::of(alloc, target, desc)?;

@@ -27,51 +27,52 @@ fn bytes_that_are_no_json(rt: HostRuntime) -> Result<(), Fail> {
     Ok(())
 }
 
-// Each key left out, added and of another type; another target; no object.
-static NO_DOCUMENTS: [&str; 24] = [
-    "{}",
-    "null",
-    "[]",
-    "1.5",
-    "1e3",
-    "-0",
+// Keys that no document has, a target that there is not, no object.
+static NO_DOCUMENTS: [&str; 16] = [
+    r#"{}"#,
+    r#"null"#,
+    r#"[]"#,
+    r#"1.5"#,
+    r#"1e3"#,
+    r#"-0"#,
     r#""pack""#,
     r#"{"a":1,"a":2}"#,
     r#"["le64","bool",true]"#,
-    r#"{"desc":"bool","value":true}"#,
-    r#"{"target":"le64","value":true}"#,
-    r#"{"target":"le64","desc":"bool"}"#,
     r#"{"target":"le64","desc":"bool","value":true,"edits":[]}"#,
     r#"{"target":"le64","desc":"bool","value":true,"version":1}"#,
     r#"{"target":"le64","desc":"bool","value":true,"Value":true}"#,
-    r#"{"target":"be64","desc":"bool","value":true}"#,
-    r#"{"target":"LE64","desc":"bool","value":true}"#,
-    r#"{"target":"","desc":"bool","value":true}"#,
-    r#"{"target":64,"desc":"bool","value":true}"#,
-    r#"{"target":null,"desc":"bool","value":true}"#,
-    r#"{"target":["le64"],"desc":"bool","value":true}"#,
-    r#"{"target":{"little":true,"pointer":8,"u64_align":8,"u128_align":16},"desc":"bool","value":true}"#,
-    r#"{"target":"be64","target":"le32","desc":"bool","value":true}"#,
+    r#"{"target":"le64","desc":"bool","value":true,"bytes":"00"}"#,
+    r#"{"target":"le64","desc":"bool","bytes":"00"}"#,
+    r#"{"target":"le64","target":"le65","desc":"bool","value":true}"#,
     r#"{"target":"le64","desc":"bool","value":1.5,"value":1e3}"#,
 ];
 
 // What is no description, whole or in a part.
-static NO_DESCRIPTIONS: [&str; 48] = [
-    "null",
-    "true",
-    "8",
-    "[]",
+static NO_DESCRIPTIONS: [&str; 92] = [
+    r#"null"#,
+    r#"true"#,
+    r#"8"#,
+    r#"[]"#,
     r#"["u8","u8"]"#,
-    "{}",
+    r#"{}"#,
     r#""""#,
     r#""U8""#,
     r#""Bool""#,
     r#""f32""#,
-    r#""usize""#,
-    r#""Ordering""#,
-    r#""NonZeroI8""#,
+    r#""f64""#,
+    r#""usize ""#,
     r#""u8 ""#,
-    r#"{"array":["u8",2]}"#,
+    r#""unit""#,
+    r#""NonZeroBool""#,
+    r#""NonZeroF32""#,
+    r#""NonMaxI8""#,
+    r#""NonXU8""#,
+    r#""AtomicU128""#,
+    r#""AtomicPtr""#,
+    r#""Fn""#,
+    r#""FnPtr""#,
+    r#""CVoid""#,
+    r#"{"u8":null}"#,
     r#"{"Option":"u8"}"#,
     r#"{"option":null}"#,
     r#"{"option":["u8"]}"#,
@@ -85,18 +86,53 @@ static NO_DESCRIPTIONS: [&str; 48] = [
     r#"{"result":["u8","u8","u8"]}"#,
     r#"{"result":["f32","u8"]}"#,
     r#"{"result":["u8","f32"]}"#,
+    r#"{"union":"u8"}"#,
+    r#"{"union":["u8"]}"#,
+    r#"{"union":["u8","u8","u8"]}"#,
+    r#"{"core_option":["u8"]}"#,
+    r#"{"core_result":["u8"]}"#,
+    r#"{"core_result":"u8"}"#,
+    r#"{"stable_if":["u8"]}"#,
+    r#"{"stable_if":["u8","f32"]}"#,
+    r#"{"array":"u8"}"#,
+    r#"{"array":["u8"]}"#,
+    r#"{"array":["u8",2,2]}"#,
+    r#"{"array":[2,"u8"]}"#,
+    r#"{"array":["f32",2]}"#,
+    r#"{"array":["u8","2"]}"#,
+    r#"{"array":["u8",2.0]}"#,
+    r#"{"array":["u8",-1]}"#,
+    r#"{"array":["u8",null]}"#,
+    r#"{"array":["u8",18446744073709551616]}"#,
+    r#"{"manually_drop":["u8"]}"#,
+    r#"{"maybe_uninit":null}"#,
+    r#"{"unsafe_cell":"f32"}"#,
+    r#"{"pin":{}}"#,
+    r#"{"not_pod":8}"#,
+    r#"{"or_infallible":["u8","u8"]}"#,
+    r#"{"or_infallible":"f32"}"#,
+    r#"{"const_ptr":["u8"]}"#,
+    r#"{"mut_ptr":null}"#,
+    r#"{"atomic_ptr":"f32"}"#,
+    r#"{"non_null":[]}"#,
+    r#"{"ref":1}"#,
+    r#"{"ref_mut":"&u8"}"#,
+    r#"{"fn":"u8"}"#,
+    r#"{"non_x":"u8"}"#,
+    r#"{"non_x":["u8"]}"#,
+    r#"{"non_x":["u8",72,0]}"#,
+    r#"{"non_x":[72,"u8"]}"#,
+    r#"{"non_x":["U8",72]}"#,
+    r#"{"non_x":["bool",1]}"#,
+    r#"{"non_x":["NonZeroU8",1]}"#,
+    r#"{"non_x":["u8",1.5]}"#,
+    r#"{"non_x":["u8",null]}"#,
+    r#"{"non_x":["u8","072"]}"#,
+    r#"{"non_x":["u8","-0"]}"#,
+    r#"{"non_x":["u128","340282366920938463463374607431768211456"]}"#,
+    r#"{"no_niches":[]}"#,
+    r#"{"leaf":"L"}"#,
     r#"{"struct":[]}"#,
-    r#"{"struct":{"module":"m","fields":[]}}"#,
-    r#"{"struct":{"name":"A","fields":[]}}"#,
-    r#"{"struct":{"name":"A","module":"m"}}"#,
-    r#"{"struct":{"name":"A","module":"m","fields":[],"size":0}}"#,
-    r#"{"struct":{"name":1,"module":"m","fields":[]}}"#,
-    r#"{"struct":{"name":"A","module":null,"fields":[]}}"#,
-    r#"{"struct":{"name":"A","module":"m","fields":{}}}"#,
-    r#"{"struct":{"name":"A","module":"m","fields":["u8"]}}"#,
-    r#"{"struct":{"name":"A","module":"m","fields":[["a"]]}}"#,
-    r#"{"struct":{"name":"A","module":"m","fields":[["a","u8","u8"]]}}"#,
-    r#"{"struct":{"name":"A","module":"m","fields":[[1,"u8"]]}}"#,
     r#"{"struct":{"name":"A","module":"m","fields":[["a","u8"],["b","f32"]]}}"#,
     r#"{"struct":{"name":"A","module":"m","fields":[],"version":null}}"#,
     r#"{"struct":{"name":"A","module":"m","fields":[],"version":"1"}}"#,
@@ -108,7 +144,7 @@ static NO_DESCRIPTIONS: [&str; 48] = [
 ];
 
 // What is no value of any form, whole or in a part.
-static NO_VALUES: [&str; 31] = [
+static NO_VALUES: [&str; 36] = [
     "1.5",
     "1e3",
     "1.0",
@@ -126,12 +162,17 @@ static NO_VALUES: [&str; 31] = [
     r#"" 1""#,
     r#""1 ""#,
     r#""None""#,
-    r#""less""#,
+    r#""Less""#,
     r#""true""#,
+    r#""null""#,
     "{}",
     r#"{"none":null}"#,
     r#"{"Ok":1}"#,
-    r#"{"bytes":"00"}"#,
+    r#"{"bytes":"0"}"#,
+    r#"{"bytes":"0g"}"#,
+    r#"{"bytes":0}"#,
+    r#"{"bytes":[0]}"#,
+    r#"{"Bytes":"00"}"#,
     r#"{"ok":1,"err":1}"#,
     r#"{"some":true,"none":1}"#,
     r#"{"ok":1.5}"#,
@@ -144,14 +185,25 @@ static NO_VALUES: [&str; 31] = [
 
 #[test]
 fn trees_that_are_no_document(rt: HostRuntime) -> Result<(), Fail> {
-    let alloc = rt.alloc();
-    for text in NO_DOCUMENTS {
-        is_no_job(&rt, alloc, text)?;
+    for text in &NO_DOCUMENTS {
+        is_no_job(&rt, rt.alloc(), text)?;
     }
-    for desc in NO_DESCRIPTIONS {
+    Ok(())
+}
+
+#[test]
+fn trees_that_are_no_description(rt: HostRuntime) -> Result<(), Fail> {
+    let alloc = rt.alloc();
+    for desc in &NO_DESCRIPTIONS {
         is_no_job(&rt, alloc, document(alloc, desc, "true")?.as_str())?;
     }
-    for value in NO_VALUES {
+    Ok(())
+}
+
+#[test]
+fn trees_that_are_no_value(rt: HostRuntime) -> Result<(), Fail> {
+    let alloc = rt.alloc();
+    for value in &NO_VALUES {
         is_no_job(&rt, alloc, document(alloc, r#""u8""#, value)?.as_str())?;
     }
     Ok(())
@@ -166,7 +218,7 @@ const PAIR: &str =
     r#"{"struct":{"name":"S","module":"demo","fields":[["f0","u32"],["f1","bool"]]}}"#;
 
 // Parts are numbered from 0, fields before their struct and sides before their sum.
-static FAULTS: [(&str, &str, &str); 30] = [
+static FAULTS: [(&str, &str, &str); 62] = [
     (r#""()""#, "0", "WrongValue"),
     (r#""()""#, r#""none""#, "WrongValue"),
     (r#""bool""#, "1", "WrongValue"),
@@ -187,6 +239,114 @@ static FAULTS: [(&str, &str, &str); 30] = [
     (
         r#"{"result":["u8","bool"]}"#,
         r#"{"ok":true}"#,
+        "WrongValue",
+    ),
+    (r#"{"array":["u8",2]}"#, r#"[1]"#, "WrongValue"),
+    (r#"{"array":["u8",2]}"#, r#"[1,2,3]"#, "WrongValue"),
+    (r#"{"array":["u8",2]}"#, r#"[1,256]"#, "WrongValue"),
+    (r#"{"array":["u8",2]}"#, r#"{"bytes":"0102"}"#, "WrongValue"),
+    (r#"{"array":["u8",0]}"#, r#"[1]"#, "WrongValue"),
+    (r#"{"array":["u8",0]}"#, r#"null"#, "WrongValue"),
+    (r#"{"union":["u8","u16"]}"#, r#"5"#, "WrongValue"),
+    (
+        r#"{"union":["u8","u16"]}"#,
+        r#"{"bytes":"01"}"#,
+        "WrongValue",
+    ),
+    (
+        r#"{"union":["u8","u16"]}"#,
+        r#"{"bytes":"010203"}"#,
+        "WrongValue",
+    ),
+    (
+        r#"{"no_niches":{"size":2,"align":1,"niches":"none","indirections":false}}"#,
+        r#"{"bytes":"00"}"#,
+        "WrongValue",
+    ),
+    (
+        r#"{"no_niches":{"size":2,"align":1,"niches":"none","indirections":false}}"#,
+        r#"258"#,
+        "WrongValue",
+    ),
+    (
+        r#"{"core_option":"NonZeroU8"}"#,
+        r#"{"some":0}"#,
+        "WrongValue",
+    ),
+    (r#"{"core_option":"NonZeroU8"}"#, r#"9"#, "WrongValue"),
+    (
+        r#"{"core_option":"NonZeroU8"}"#,
+        r#"{"ok":9}"#,
+        "WrongValue",
+    ),
+    (
+        r#"{"core_option":"NonZeroU8"}"#,
+        r#"{"err":null}"#,
+        "WrongValue",
+    ),
+    (
+        r#"{"core_result":["NonZeroU8","()"]}"#,
+        r#""none""#,
+        "WrongValue",
+    ),
+    (
+        r#"{"core_result":["NonZeroU8","()"]}"#,
+        r#"{"err":0}"#,
+        "WrongValue",
+    ),
+    (
+        r#"{"core_result":["NonZeroU8","()"]}"#,
+        r#"{"ok":0}"#,
+        "WrongValue",
+    ),
+    (
+        r#"{"core_result":["NonZeroU8","()"]}"#,
+        r#"{"some":9}"#,
+        "WrongValue",
+    ),
+    (r#"{"maybe_uninit":"bool"}"#, r#"2"#, "WrongValue"),
+    (
+        r#"{"maybe_uninit":"bool"}"#,
+        r#"{"bytes":"02"}"#,
+        "WrongValue",
+    ),
+    (r#"{"or_infallible":"u8"}"#, r#"{"ok":5}"#, "WrongValue"),
+    (r#"{"stable_if":["bool","u8"]}"#, r#"5"#, "WrongValue"),
+    (r#"{"ref":"u8"}"#, r#"null"#, "WrongValue"),
+    (r#""u8""#, r#"{"bytes":"05"}"#, "WrongValue"),
+    (
+        r#"{"leaf":{"name":"L","module":"m","size":3,"align":1,"free":[[1,255]],"forbidden":[],"niches":"none","indirections":false}}"#,
+        r#"{"bytes":"aa01bb"}"#,
+        "WrongValue",
+    ),
+    (
+        r#"{"leaf":{"name":"L","module":"m","size":3,"align":1,"free":[[1,255]],"forbidden":[],"niches":"none","indirections":false}}"#,
+        r#"{"bytes":"aa00"}"#,
+        "WrongValue",
+    ),
+    (
+        r#"{"leaf":{"name":"L","module":"m","size":3,"align":1,"free":[[1,255]],"forbidden":[],"niches":"none","indirections":false}}"#,
+        r#"[170,0,187]"#,
+        "WrongValue",
+    ),
+    (
+        r#"{"leaf":{"name":"L","module":"m","size":3,"align":1,"free":[[1,240]],"forbidden":[{"pattern":[[0,1],[2,2]]},{"range":[2,250,255]}],"niches":"none","indirections":false}}"#,
+        r#"{"bytes":"001000"}"#,
+        "WrongValue",
+    ),
+    (
+        r#"{"leaf":{"name":"L","module":"m","size":3,"align":1,"free":[[1,240]],"forbidden":[{"pattern":[[0,1],[2,2]]},{"range":[2,250,255]}],"niches":"none","indirections":false}}"#,
+        r#"{"bytes":"010002"}"#,
+        "WrongValue",
+    ),
+    (
+        r#"{"leaf":{"name":"L","module":"m","size":3,"align":1,"free":[[1,240]],"forbidden":[{"pattern":[[0,1],[2,2]]},{"range":[2,250,255]}],"niches":"none","indirections":false}}"#,
+        r#"{"bytes":"0000fa"}"#,
+        "WrongValue",
+    ),
+    (
+        r#"{"leaf":{"name":"L","module":"m","size":3,"align":1,"free":[[1,240]],"forbidden":[{"pattern":[[0,1],[2,2]]},{"range":[2,250,255]}],"niches":"none","indirections":false}}"#,
+        r#"{"bytes":"0000ff"}"#,
         "WrongValue",
     ),
     (PAIR, "[1]", "WrongValue"),
@@ -243,7 +403,7 @@ static FAULTS: [(&str, &str, &str); 30] = [
 #[test]
 fn jobs_that_have_a_fault(rt: HostRuntime) -> Result<(), Fail> {
     let alloc = rt.alloc();
-    for (desc, value, fault) in FAULTS {
+    for (desc, value, fault) in &FAULTS {
         is_refused(&rt, alloc, desc, value, fault)?;
     }
     Ok(())

@@ -2,10 +2,13 @@ use crate::mem_sink::MemSink;
 use crate::mem_source::MemSource;
 use crate::tool::tool;
 use abi_num::{OutOfMemory, Text};
-use std::alloc::Global;
+use std::alloc::{AllocError, Global};
 use std::process::Abort;
 use std::str;
 use std::test::Fail;
+
+/// A target of 64 bits whose least byte comes first.
+pub const LE64: &str = r#""le64""#;
 
 // A document whose job can be done.
 const NONE_OF_BOOL: &str = r#"{"target":"le64","desc":{"option":"bool"},"value":"none"}"#;
@@ -24,7 +27,22 @@ fn run(
     Ok(tool(alloc, &texts, source, sink))
 }
 
-// `pack` answers this document with this status and this text.
+/// The command of that word answers this document with this status and this text.
+pub fn replies(
+    rt: &impl Abort,
+    alloc: Global,
+    word: &str,
+    document: &[u8],
+    status: u8,
+    text: &str,
+) -> Result<(), Fail> {
+    let mut source = MemSource::new(document, &[]);
+    let mut sink = MemSink::new(alloc, text.len().saturating_add(256), &[])?;
+    let ended = run(alloc, &[word], &mut source, &mut sink)?;
+    is_written(rt, &sink, ended, status, text, document)
+}
+
+/// `pack` answers this document with this status and this text.
 pub fn answers(
     rt: &impl Abort,
     alloc: Global,
@@ -32,10 +50,89 @@ pub fn answers(
     status: u8,
     text: &str,
 ) -> Result<(), Fail> {
-    let mut source = MemSource::new(document, &[]);
-    let mut sink = MemSink::new(alloc, text.len().saturating_add(256), &[])?;
+    replies(rt, alloc, "pack", document, status, text)
+}
+
+/// A document of a target and a description, both in JSON, and of further members, each behind a comma.
+pub fn described(
+    alloc: Global,
+    target: &str,
+    desc: &str,
+    more: &str,
+) -> Result<String, AllocError> {
+    format!(in alloc; "{{\"target\":{target},\"desc\":{desc}{more}}}")
+}
+
+/// `layout` answers the description with these lines.
+pub fn is_laid_out(
+    rt: &impl Abort,
+    alloc: Global,
+    target: &str,
+    desc: &str,
+    lines: &str,
+) -> Result<(), Fail> {
+    let document = described(alloc, target, desc, "")?;
+    replies(rt, alloc, "layout", document.as_bytes(), 0, lines)
+}
+
+/// `read` answers the bytes, as hexadecimal digits, with the line of this value.
+pub fn is_read(
+    rt: &impl Abort,
+    alloc: Global,
+    target: &str,
+    desc: &str,
+    digits: &str,
+    value: &str,
+) -> Result<(), Fail> {
+    let bytes = format!(in alloc; ",\"bytes\":\"{digits}\"")?;
+    let document = described(alloc, target, desc, bytes.as_str())?;
+    let line = format!(in alloc; "value {value}\n")?;
+    replies(rt, alloc, "read", document.as_bytes(), 0, line.as_str())
+}
+
+/// `pack` answers the value with a text of which the last line has these digits.
+pub fn has_bytes(
+    rt: &impl Abort,
+    alloc: Global,
+    target: &str,
+    desc: &str,
+    value: &str,
+    digits: &str,
+) -> Result<(), Fail> {
+    let more = format!(in alloc; ",\"value\":{value}")?;
+    let document = described(alloc, target, desc, more.as_str())?;
+    let space = if digits.is_empty() { "" } else { " " };
+    let line = format!(in alloc; "\nbytes{space}{digits}\n")?;
+    let mut source = MemSource::new(document.as_bytes(), &[]);
+    let mut sink = MemSink::new(alloc, 4096, &[])?;
     let ended = run(alloc, &["pack"], &mut source, &mut sink)?;
-    is_written(rt, &sink, ended, status, text, document)
+    ends_with(rt, &sink, ended, line.as_str(), document.as_str())
+}
+
+// The status is 0, and what the sink got ends with this line.
+fn ends_with(
+    rt: &impl Abort,
+    sink: &MemSink<'_>,
+    ended: u8,
+    line: &str,
+    document: &str,
+) -> Result<(), Fail> {
+    let written = str::from_utf8(sink.got()).ok().ok_or("no UTF-8")?;
+    assert_eq!(rt; ended, 0, "{document}");
+    assert!(rt; written.ends_with(line), "{document}: {written}");
+    Ok(())
+}
+
+/// The command of that word refuses this document with this fault.
+pub fn is_refused_by(
+    rt: &impl Abort,
+    alloc: Global,
+    word: &str,
+    document: &str,
+    fault: &str,
+) -> Result<(), Fail> {
+    let text = format!(in alloc; "refused: {fault}\n")?;
+    replies(rt, alloc, word, document.as_bytes(), 7, text.as_str())
 }
 
 // The status and what the sink got are these.
@@ -59,13 +156,17 @@ fn shown(document: &[u8]) -> &str {
 
 #[test]
 fn unlisted_words_do_nothing(rt: HostRuntime) -> Result<(), Fail> {
-    let lists: [&[&str]; 6] = [
+    let lists: [&[&str]; 10] = [
         &[],
         &[""],
         &["pak"],
         &["Pack"],
         &["pack "],
         &["pack", "pack"],
+        &["layout", "read"],
+        &["read", ""],
+        &["Layout"],
+        &["edit"],
     ];
     for words in lists {
         let mut source = MemSource::new(b"{}", &[0]);

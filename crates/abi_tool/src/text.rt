@@ -1,12 +1,13 @@
-//! The lines that the program writes.
+//! The lines that the program writes: of a packed value, of a layout, of a job that has a fault.
 
 ghost use Rattle.std.specs.Prelude.{◌≡◌, IfOk, OnOk};
 ghost use Rattle.abi_bits.specs.Forbidden.{items};
-ghost use Rattle.abi_tool.specs.Lines.{Adds, size_line, align_line, niches_line, indirections_line, entry_text, entries_text, free_line, pair_text, pairs_text, more_pairs_text, items_text, forbidden_line, layout_lines, side_text, niche_text, meaning_text, places_text, sum_line, sum_lines, bytes_line, image_text, refused_line};
+ghost use Rattle.abi_tool.specs.Lines.{Adds, size_line, align_line, niches_line, indirections_line, entry_text, entries_text, free_line, pairs_text, more_pairs_text, items_text, forbidden_line, layout_lines, bytes_line, image_text, layout_text, refused_line};
 
 use crate::fault::Fault;
+use crate::sum_text::{push_refused_sums, push_sums};
 use abi_bits::{BitMask, ForbiddenValues, SaturatingAddValue};
-use abi_det::{Kind, Layout, Test};
+use abi_det::Layout;
 use abi_layout::Placed;
 use abi_num::{OutOfMemory, Text};
 use abi_pack::Image;
@@ -22,6 +23,17 @@ pub fn text_of(alloc: Global, image: &Image) -> Result<Text, OutOfMemory>
     push_layout(&mut out, &image.layout)?;
     push_sums(&mut out, image.placed.as_slice())?;
     push_bytes(alloc, &mut out, image.bytes.as_slice())?;
+    Ok(Text::from(out))
+}
+
+/// The lines of a layout and its sums, each sum followed by what refuses it a niche, place by place.
+#[tactic(auto, unfolding(crate::specs::Lines::layout_text))]
+pub fn layout_text(alloc: Global, layout: &Layout, sums: &[Placed]) -> Result<Text, OutOfMemory>
+    ensures { IfOk result (λ text. text ≡ layout_text layout.now sums.now) }
+{
+    let mut out = String::new(alloc);
+    push_layout(&mut out, layout)?;
+    push_refused_sums(&mut out, sums)?;
     Ok(Text::from(out))
 }
 
@@ -137,8 +149,9 @@ fn push_items(out: &mut String, forbidden: &ForbiddenValues) -> Result<(), Alloc
     }
 }
 
+/// Adds pairs of an offset and the value of its byte, joined by commas.
 #[tactic(auto, unfolding(crate::specs::Lines::pairs_text))]
-fn push_pairs(out: &mut String, pairs: &[(u64, u8)]) -> Result<(), AllocError>
+pub fn push_pairs(out: &mut String, pairs: &[(u64, u8)]) -> Result<(), AllocError>
     ensures { OnOk result (Adds out.old out.new (pairs_text pairs.now)) }
 {
     match pairs.split_first() {
@@ -158,71 +171,6 @@ fn push_more_pairs(out: &mut String, pairs: &[(u64, u8)]) -> Result<(), AllocErr
         write!(out, ",{offset}={byte}")?;
     }
     Ok(())
-}
-
-#[tactic(auto, unfolding(crate::specs::Lines::sum_lines))]
-fn push_sums(out: &mut String, sums: &[Placed]) -> Result<(), AllocError>
-    ensures { OnOk result (Adds out.old out.new (sum_lines sums.now)) }
-{
-    for sum in sums {
-        push_sum(out, sum)?;
-    }
-    Ok(())
-}
-
-#[tactic(auto, unfolding(crate::specs::Lines::sum_line))]
-fn push_sum(out: &mut String, sum: &Placed) -> Result<(), AllocError>
-    ensures { OnOk result (Adds out.old out.new (sum_line sum.now)) }
-{
-    push_places(out, sum)?;
-    push_niche(out, sum.kind, &sum.determinant.test)?;
-    push_meaning(out, sum.determinant.not)
-}
-
-#[tactic(auto, unfolding(crate::specs::Lines::places_text))]
-fn push_places(out: &mut String, sum: &Placed) -> Result<(), AllocError>
-    ensures { OnOk result (Adds out.old out.new (places_text sum.now)) }
-{
-    write!(
-        out,
-        "sum {} place {} front {}",
-        sum.part, sum.place, sum.front
-    )?;
-    write!(out, " ok {} err {} ", sum.ok_shift, sum.err_shift)
-}
-
-#[tactic(auto, unfolding(crate::specs::Lines::niche_text))]
-fn push_niche(out: &mut String, kind: Kind, test: &Test) -> Result<(), AllocError>
-    ensures { OnOk result (Adds out.old out.new (niche_text kind test.now)) }
-{
-    match test {
-        Test::BitDeterminant => out.push_str("tag"),
-        Test::ValueIsErr(pattern) => {
-            push_side(out, kind)?;
-            push_pairs(out, pattern.pairs())
-        }
-        Test::BitIsErr { offset, mask } => write!(out, "bit {offset}:{mask}"),
-    }
-}
-
-fn push_side(out: &mut String, kind: Kind) -> Result<(), AllocError>
-    ensures { OnOk result (Adds out.old out.new (side_text kind)) }
-{
-    match kind {
-        Kind::SmallerPattern => out.push_str("smaller "),
-        _ => out.push_str("larger "),
-    }
-}
-
-#[tactic(auto, unfolding(crate::specs::Lines::meaning_text))]
-fn push_meaning(out: &mut String, means_ok: bool) -> Result<(), AllocError>
-    ensures { OnOk result (Adds out.old out.new (meaning_text means_ok)) }
-{
-    out.push_str(if means_ok {
-        " means ok\n"
-    } else {
-        " means err\n"
-    })
 }
 
 #[tactic(auto, unfolding(crate::specs::Lines::bytes_line))]

@@ -1,5 +1,5 @@
 ghost use Rattle.std.specs.Prelude.{◌≡◌, ◌≢◌, ◌↔◌, ◌⊎◌, [], ◌∷◌, Some, None, IfSome, codes};
-ghost use Rattle.abi_tool.specs.Headline.{Packs};
+ghost use Rattle.abi_tool.specs.Headline.{Packs, LaysOut, Reads};
 ghost use Rattle.std.specs.Io.KnownBytes.{Keeps};
 ghost use Rattle.abi_tool.specs.Answers.{invocation_of, reply_to, status_of, Answers, StatusMeans, rest_after, IsSilent};
 ghost use Rattle.abi_tool.specs.Causes.{Rose};
@@ -31,6 +31,14 @@ pub fn tool<S: Source, K: Sink>(alloc: Global, words: &[Text], source: &mut S, s
     // Status 0 of `pack`: the document was a job without a fault, and an image that shows its value and no other was written.
     ensures packs { words.now ≡ codes "pack" ∷ [] → IfSome (S.left source.old) (λ bytes.
         result ≡ 0 → Packs bytes (K.got sink.old) (K.got sink.new)) }
+
+    // Of `layout`: it was a description without a fault, and its layout and its sums with their refusals were written.
+    ensures lays_out { words.now ≡ codes "layout" ∷ [] → IfSome (S.left source.old) (λ bytes.
+        result ≡ 0 → LaysOut bytes (K.got sink.old) (K.got sink.new)) }
+
+    // Of `read`: it was a description without a fault, and the one value that the bytes show was written.
+    ensures reads { words.now ≡ codes "read" ∷ [] → IfSome (S.left source.old) (λ bytes.
+        result ≡ 0 → Reads bytes (K.got sink.old) (K.got sink.new)) }
 
     // With no fault the status is that of the reply, unless memory was refused.
     ensures complete { IfSome (S.left source.old) (λ bytes.

@@ -1,19 +1,21 @@
 //! Documents whose job is done: each word of each line, each form of a description, and each form of a value.
 
-use crate::tests::answers;
+use crate::tests::{LE64, answers, described, is_read};
 use std::alloc::{AllocError, Global};
+use std::process::Abort;
 use std::test::Fail;
 
 /// The document of a description and a value on a target of 64 bits whose least byte comes first.
 pub fn document(alloc: Global, desc: &str, value: &str) -> Result<String, AllocError> {
-    format!(in alloc; "{{\"target\":\"le64\",\"desc\":{desc},\"value\":{value}}}")
+    let more = format!(in alloc; ",\"value\":{value}")?;
+    described(alloc, LE64, desc, more.as_str())
 }
 
-/// A description, the lines of its layout and its sums, and values with their bytes.
-struct Row {
-    desc: &'static str,
-    lines: &'static str,
-    values: &'static [(&'static str, &'static str)],
+/// A description, the lines of its layout and its sums, and values as they are written, with their bytes.
+pub struct Row {
+    pub desc: &'static str,
+    pub lines: &'static str,
+    pub values: &'static [(&'static str, &'static str)],
 }
 
 // Sizes, alignments, counts, free bits and forbidden values, worked out by hand for a 64-bit target.
@@ -296,18 +298,24 @@ static SUMS: [Row; 20] = [
     },
 ];
 
+/// Each value of the row is packed into its bytes, and read back from them.
+pub fn is_packed(rt: &impl Abort, alloc: Global, row: &Row) -> Result<(), Fail> {
+    let lines = row.lines;
+    for (value, digits) in row.values {
+        let space = if digits.is_empty() { "" } else { " " };
+        let text = format!(in alloc; "{lines}bytes{space}{digits}\n")?;
+        let document = document(alloc, row.desc, value)?;
+        answers(rt, alloc, document.as_bytes(), 0, text.as_str())?;
+        is_read(rt, alloc, LE64, row.desc, digits, value)?;
+    }
+    Ok(())
+}
+
 #[test]
 fn each_word_of_each_line(rt: HostRuntime) -> Result<(), Fail> {
-    let alloc = rt.alloc();
     for rows in [&LAYOUTS[..], &SUMS[..]] {
         for row in rows {
-            let lines = row.lines;
-            for (value, digits) in row.values {
-                let space = if digits.is_empty() { "" } else { " " };
-                let text = format!(in alloc; "{lines}bytes{space}{digits}\n")?;
-                let document = document(alloc, row.desc, value)?;
-                answers(&rt, alloc, document.as_bytes(), 0, text.as_str())?;
-            }
+            is_packed(&rt, rt.alloc(), row)?;
         }
     }
     Ok(())

@@ -1,5 +1,7 @@
 use Rattle.std.proofs.Common.{◌≡◌, ◌+◌, ◌∷◌, ◌∙◌, slice_index, refl, ap, rules}
+use Rattle.abi_pack.specs.ByteMap.{seen_from}
 use Rattle.abi_pack.specs.View.{plain}
+use Rattle.abi_pack.proofs.Named.{none_unit}
 use Rattle.abi_pack.proofs.Offsets.{covered_rest, state_rest, told_sum, read_step, told_list}
 use Rattle.abi_pack.proofs.Rows.{told_array}
 use Rattle.abi_pack.proofs.read.+read.Goals as goal
@@ -17,6 +19,12 @@ pub read-returns-in_ok-read_each-in-Array : goal.read-returns-in_ok-read_each-in
 read-returns-in_ok-read_each-in-Array t c =
     told_array c.read_each.new.values c.new-values-in-Array.result c.args.part.now c.deref.result.now c.in-Array.item c.in-Array.len c.in-Array.size _ c.in-Array.is c.deref.ensures
     c.new-values-in-Array.ensures c.in_ok-read_each-in-Array.ensures
+
+pub read-variant_value-requires : goal.read-variant_value-requires
+read-variant_value-requires t c =
+    none_unit c.args.part.now c.side-variant.result.now c.in-Sum.names c.in-Sum.ok c.in-Sum.err c.in-Sum.sum_layout c.is_det_ok-first.result
+    (seen_from (c.args.at + c.start.result) (slice_index c.args.bytes.now)) (plain c.in_ok-payload-in-Sum.payload) c.in-Sum.is
+    (rw (← c.deref-in-Sum.ensures, ← c.deref-in-Sum-2.ensures) c.side-variant.ensures) c.requires.named c.in_ok-payload-in-Sum.ensures
 
 pub read-returns-in_ok-value-in-Sum : goal.read-returns-in_ok-value-in-Sum
 read-returns-in_ok-value-in-Sum t c =

@@ -3,6 +3,7 @@ use Rattle.abi_pack.specs.ByteMap.{seen_from}
 use Rattle.abi_pack.specs.ValueShown.{is_shown_in}
 use Rattle.abi_pack.specs.View.{shapes}
 use Rattle.abi_pack.proofs.Offsets.{covered_rest, state_rest, shown_sum, shown_fields}
+use Rattle.abi_pack.proofs.Steps.{raw_below}
 use Rattle.abi_pack.proofs.shown.+shown.Goals as goal
 
 pub is_shown-is_det_ok-first-requires : goal.is_shown-is_det_ok-first-requires
@@ -30,3 +31,6 @@ are_shown-returns-else-first t c =
     ∙ shown_fields c.args.fields.now c.in-Some.fields.now c.in-Some.field.now (slice_index c.args.bytes.now) c.args.at (c.args.at + c.in-Some.field.now.gap)
     end false (is_shown_in (shapes c.in-Some.fields.now) (seen_from end (slice_index c.args.bytes.now))) cons refl (ap (λ n. c.args.at + c.in-Some.field.now.gap + n) c.size.ensures)
     (sym c.if-first.false ∙ c.is_shown-first.ensures) refl
+
+pub is_shown-is_legal-requires-in-Raw-clause-below : goal.is_shown-is_legal-requires-in-Raw-clause-below
+is_shown-is_legal-requires-in-Raw-clause-below t c = raw_below c.args.part.now c.in-Raw.size c.in-Raw.free c.in-Raw.forbidden c.in-Raw.is c.requires.sound

@@ -5,6 +5,7 @@ use Rattle.abi_layout.specs.declared.part.Compound.TheVariants as compound
 use Rattle.abi_pack.specs.Packed.{packed_in}
 use Rattle.abi_layout.specs.Trees.{sides}
 use Rattle.abi_pack.specs.View.{shape, shapes, plain, plains}
+use Rattle.abi_pack.proofs.Choice.{and_second}
 use Rattle.abi_pack.proofs.Nodes.{nodes, nodes_in, nodes_fewer}
 use Rattle.abi_pack.proofs.Steps.{struct_is, sum_covered, IsVariantOf, variant_of, payload_fits}
 use Rattle.abi_pack.proofs.Rows.{row_count, row_nodes, row_sound}
@@ -76,3 +77,26 @@ write_each-loop-value-preserved t c =
     let some : 0 < c.args.len = omega (arith, c.loop-value-test.true, count) in
     writing_next (shape c.args.item.now) c.value-item.result _ (drop (c.loop-value.value-index + 1) c.args.values.now) c.loop-value.start _ _ _ _ _ _ cons
     (row_sound c.args.len (shape c.args.item.now) some c.requires.sound) c.loop-value.invariant c.loop-value.auto.out c.size-size.ensures c.write.ensures
+
+pub write_all-write_all-requires : goal.write_all-write_all-requires
+write_all-write_all-requires t c =
+    let cons : c.args.fields.now ≡ c.in-Some-Some.field.now ∷ c.in-Some-Some.fields.now = search rules in
+    let values : c.args.values.now ≡ c.in-Some-Some.value.now ∷ c.in-Some-Some.values.now = search rules in
+    let fewer : nodes_in (shapes c.in-Some-Some.fields.now) < nodes_in (shapes c.args.fields.now) = rw cons (omega arith) in
+    let sound = rw cons at c.requires.sound in
+    let fit = rw (cons, values) at c.requires.fits in
+    let room = rw cons at c.requires.room in
+    let one = c.split_at_mut-before.ensures.back_len in
+    let other = c.split_at_mut-here.ensures.back_len in (
+      omega (arith, c.decreases, fewer),
+      (
+        sound.1,
+        (
+          omega (arith, c.requires.small, one, other),
+          (
+            and_second (fits (shape c.in-Some-Some.field.now.part) (plain c.in-Some-Some.value.now)) _ fit,
+            omega (arith, room, one, other, c.size.ensures),
+          ),
+        ),
+      ),
+    )

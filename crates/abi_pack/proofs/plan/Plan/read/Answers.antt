@@ -21,3 +21,8 @@ pub returns-in-Err : goal.returns-in-Err
 returns-in-Err c =
     let bytes : AreBytes (slice_index c.args.bytes.now) = λ i. omega (arith, c.type_inv.bytes i) in
     plan_shown _ c.args.self.now c.args.bytes.now c.self.view_is bytes (c.if-bytes-size.false ∙ c.size.ensures) c.if-not-is_shown.ensures
+
+pub returns-then-values-gt-MAX_VALUES : goal.returns-then-values-gt-MAX_VALUES
+returns-then-values-gt-MAX_VALUES c =
+    let bytes : AreBytes (slice_index c.args.bytes.now) = λ i. omega (arith, c.type_inv.bytes i) in
+    plan_shown _ c.args.self.now c.args.bytes.now c.self.view_is bytes (c.if-bytes-size.false ∙ c.size.ensures) c.if-not-is_shown.ensures

@@ -1,0 +1,9 @@
+use Rattle.std.proofs.Common.{◌≡◌, drop, map}
+use Rattle.std.specs.List.{list_all}
+use Rattle.abi_layout.specs.Leaves.{is_byte_item}
+use Rattle.abi_layout.specs.Trees.{item_of}
+use Rattle.abi_layout.proofs.leaves.are_items.Given as goal
+
+abbrev pub invariant-loop-item : goal.invariant-loop-item
+invariant-loop-item l =
+    list_all (is_byte_item l.size) (map item_of l.forbidden) ≡ list_all (is_byte_item l.size) (map item_of (drop l.item-index l.forbidden))

@@ -1,6 +1,0 @@
-use Rattle.std.proofs.Common.{◌≡◌, ◌++◌, string_bytes, take}
-use Rattle.abi_tool.specs.Lines.{sum_lines}
-use Rattle.abi_tool.proofs.text.push_sums.Given as goal
-
-abbrev pub invariant-loop-sum : goal.invariant-loop-sum
-invariant-loop-sum l = string_bytes l.out ≡ string_bytes l.fn.out ++ sum_lines (take l.sum-index l.sums)
