@@ -130,6 +130,12 @@ module _ (tree : Data → Option Tree) where
   abbrev pub by_rule : List (List ℕ × Rule) → List ℕ → Data → Option Tree
   by_rule rules key content = by_name rules key >>= (λ rule. read_by rule content)
 
+  abbrev pub pointer_of : List ℕ → Data → Option Tree
+  pointer_of key content = by_rule pointers key content
+
+  abbrev pub one_sided_of : List ℕ → Data → Option Tree
+  one_sided_of key content = by_rule one_sided_forms key content
+
   unfoldable pub form_of : List ℕ → Data → Option Tree
   form_of key content = by_rule forms key content
 

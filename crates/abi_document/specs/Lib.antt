@@ -4,6 +4,7 @@ pub mod Primitives
 pub mod Leaves
 pub mod Descriptions
 pub mod Values
+pub mod Edits
 pub mod Targets
 pub mod Documents
 pub mod Laws

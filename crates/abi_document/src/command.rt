@@ -7,4 +7,8 @@ pub enum Command {
     Layout,
     /// The value of a description that bytes show.
     Read,
+    /// The bytes that edits leave of bytes.
+    Edit,
+    /// The report of a description.
+    Report,
 }

@@ -2,9 +2,9 @@
 
 ghost use Rattle.std.specs.Prelude.{◌≡◌, IfOk, map, option_map};
 ghost use Rattle.serde_json.specs.View.{view, items_view};
-ghost use Rattle.abi_layout.specs.Trees.{tree, wrap, pointer};
+ghost use Rattle.abi_layout.specs.Trees.{tree, wrap, pointer as point};
 ghost use Rattle.abi_document.specs.Forms.{Tells};
-ghost use Rattle.abi_document.specs.Descriptions.{named, boxed, both_boxed, version_of, align_of, field_of, fields_of, struct_of, array_of, pair_at, pointers, one_sided_forms, by_rule, form_of, desc_step, desc_at};
+ghost use Rattle.abi_document.specs.Descriptions.{named, boxed, both_boxed, version_of, align_of, field_of, fields_of, struct_of, array_of, pair_at, pointer_of, one_sided_of, form_of, desc_step, desc_at};
 
 use crate::forms::{
     has_only, items_under, long_of, name_of, name_under, pair_of, sole_member, word_of,
@@ -77,20 +77,20 @@ fn form_of(
         "non_x" => Ok(non_x_of(content).map(Desc::Prim)),
         "no_niches" => Ok(no_niches_of(content)),
         "leaf" => Ok(leaf_of(alloc, content)?.map(Desc::Leaf)),
-        _ => one_sided(alloc, levels, key, content),
+        _ => one_sided_of(alloc, levels, key, content),
     }
 }
 
 /// A description of one other, from the one key of an object and what it holds.
 #[cycle(reading)]
 #[tactic(auto, unfolding(crate::specs::Descriptions::one_sided_forms))]
-fn one_sided(
+fn one_sided_of(
     alloc: Global,
     levels: usize,
     key: &str,
     content: &Json,
 ) -> Result<Option<Desc>, OutOfMemory>
-    ensures { IfOk result (Tells tree (by_rule (desc_at levels) one_sided_forms key.now (view content.now))) }
+    ensures { IfOk result (Tells tree (one_sided_of (desc_at levels) key.now (view content.now))) }
 {
     match key {
         "option" => {
@@ -107,28 +107,28 @@ fn one_sided(
         "pin" => wrap_of(alloc, levels, WrapKind::Pin, content),
         "not_pod" => wrap_of(alloc, levels, WrapKind::NotPod, content),
         "or_infallible" => wrap_of(alloc, levels, WrapKind::OrInfallible, content),
-        _ => pointer(alloc, levels, key, content),
+        _ => pointer_of(alloc, levels, key, content),
     }
 }
 
 /// A pointer, from the one key of an object and what it holds.
 #[cycle(reading)]
 #[tactic(auto, unfolding(crate::specs::Descriptions::pointers))]
-fn pointer(
+fn pointer_of(
     alloc: Global,
     levels: usize,
     key: &str,
     content: &Json,
 ) -> Result<Option<Desc>, OutOfMemory>
-    ensures { IfOk result (Tells tree (by_rule (desc_at levels) pointers key.now (view content.now))) }
+    ensures { IfOk result (Tells tree (pointer_of (desc_at levels) key.now (view content.now))) }
 {
     match key {
-        "const_ptr" => pointer_of(alloc, levels, PointerKind::ConstPtr, content),
-        "mut_ptr" => pointer_of(alloc, levels, PointerKind::MutPtr, content),
-        "atomic_ptr" => pointer_of(alloc, levels, PointerKind::AtomicPtr, content),
-        "non_null" => pointer_of(alloc, levels, PointerKind::NonNull, content),
-        "ref" => pointer_of(alloc, levels, PointerKind::Ref, content),
-        "ref_mut" => pointer_of(alloc, levels, PointerKind::RefMut, content),
+        "const_ptr" => pointer_to(alloc, levels, PointerKind::ConstPtr, content),
+        "mut_ptr" => pointer_to(alloc, levels, PointerKind::MutPtr, content),
+        "atomic_ptr" => pointer_to(alloc, levels, PointerKind::AtomicPtr, content),
+        "non_null" => pointer_to(alloc, levels, PointerKind::NonNull, content),
+        "ref" => pointer_to(alloc, levels, PointerKind::Ref, content),
+        "ref_mut" => pointer_to(alloc, levels, PointerKind::RefMut, content),
         _ => Ok(None),
     }
 }
@@ -149,13 +149,13 @@ fn wrap_of(
 
 /// A pointer of that kind, from what it points to.
 #[cycle(reading)]
-fn pointer_of(
+fn pointer_to(
     alloc: Global,
     levels: usize,
     kind: PointerKind,
     json: &Json,
 ) -> Result<Option<Desc>, OutOfMemory>
-    ensures { IfOk result (Tells tree (option_map (pointer kind) (desc_at levels (view json.now)))) }
+    ensures { IfOk result (Tells tree (option_map (point kind) (desc_at levels (view json.now)))) }
 {
     let pointee = boxed_at(alloc, levels, json)?;
     Ok(pointee.map(|pointee| Desc::Pointer { kind, pointee }))

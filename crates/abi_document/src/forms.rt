@@ -64,7 +64,8 @@ pub fn pair_of(json: &Json) -> Option<(&Json, &Json)>
 
 /// The three of an array of three; `None` exactly where the tree is no such array.
 pub fn triple_of(json: &Json) -> Option<(&Json, &Json, &Json)>
-    ensures { Tells (λ t. (view t.0.now, view t.1.now, view t.2.now)) (triple_of (view json.now)) result }
+    ensures { Tells (λ t. (view t.0.now, view t.1.now, view t.2.now))
+        (triple_of (view json.now)) result }
 {
     match json.as_array()?.as_slice() {
         [first, second, third] => Some((first, second, third)),

@@ -35,4 +35,18 @@ pub enum Work {
         /// The bytes.
         bytes: Bytes,
     },
+    /// The bytes that edits leave of bytes which show a value.
+    Edit {
+        /// The type.
+        desc: Desc,
+        /// The bytes.
+        bytes: Bytes,
+        /// The edits in order.
+        edits: Edits,
+    },
+    /// The report of a type.
+    Report {
+        /// The type.
+        desc: Desc,
+    },
 }

@@ -6,6 +6,9 @@ mod command;
 mod description_tests;
 mod descriptions;
 mod documents;
+#[cfg(test)]
+mod edit_tests;
+mod edits;
 mod forms;
 mod integers;
 mod job;

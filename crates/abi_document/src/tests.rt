@@ -29,7 +29,7 @@ struct Object {
     back: &'static str,
 }
 
-static OBJECTS: [Object; 7] = [
+static OBJECTS: [Object; 11] = [
     Object {
         command: Command::Pack,
         front: "",
@@ -51,6 +51,35 @@ static OBJECTS: [Object; 7] = [
             ("bytes", r#""07""#),
         ],
         back: "",
+    },
+    Object {
+        command: Command::Edit,
+        front: "",
+        members: &[
+            ("target", r#""le64""#),
+            ("desc", r#""u8""#),
+            ("bytes", r#""07""#),
+            ("edits", "[]"),
+        ],
+        back: "",
+    },
+    Object {
+        command: Command::Report,
+        front: "",
+        members: &[("target", r#""le64""#), ("desc", r#""u8""#)],
+        back: "",
+    },
+    Object {
+        command: Command::Pack,
+        front: r#"{"target":"le64","desc":"u8","value":7,"edits":["#,
+        members: &[("path", "[]"), ("value", "8")],
+        back: "]}",
+    },
+    Object {
+        command: Command::Edit,
+        front: r#"{"target":"le64","desc":"u8","bytes":"07","edits":[{"value":8,"path":["#,
+        members: &[("field", "0")],
+        back: "]}]}",
     },
     Object {
         command: Command::Layout,
@@ -247,7 +276,7 @@ fn bytes_are_pairs_of_digits_of_either_case(rt: HostRuntime) -> Result<(), Fail>
 }
 
 // Documents of a command, and what each tells.
-static DOCUMENTS: [(Command, &str, &str); 8] = [
+static DOCUMENTS: [(Command, &str, &str); 11] = [
     (
         Command::Pack,
         r#"{"value":null,"desc":"()","target":"le64"}"#,
@@ -273,7 +302,22 @@ static DOCUMENTS: [(Command, &str, &str); 8] = [
     ),
     (
         Command::Pack,
+        r#"{"target":"le64","desc":"()","value":null,"bytes":""}"#,
+        "none",
+    ),
+    (
+        Command::Edit,
         r#"{"target":"le64","desc":"()","value":null,"edits":[]}"#,
+        "none",
+    ),
+    (
+        Command::Read,
+        r#"{"target":"le64","desc":"()","bytes":"","edits":[]}"#,
+        "none",
+    ),
+    (
+        Command::Report,
+        r#"{"target":"le64","desc":"()","value":null}"#,
         "none",
     ),
 ];

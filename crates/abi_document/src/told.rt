@@ -2,7 +2,7 @@
 
 use crate::{Job, Work};
 use abi_layout::{Desc, Field, Forbid, LeafDesc};
-use abi_pack::Value;
+use abi_pack::{Edit, Step, Value};
 use std::alloc::{AllocError, Global};
 use std::fmt::Write;
 
@@ -10,19 +10,49 @@ use std::fmt::Write;
 pub fn told(alloc: Global, job: &Job) -> Result<String, AllocError> {
     let mut out = String::new(alloc);
     match &job.work {
-        Work::Pack { desc, value, .. } => {
+        Work::Pack { desc, value, edits } => {
             push_desc(alloc, &mut out, desc)?;
             out.push_str(" = ")?;
             push_value(alloc, &mut out, value)?;
+            push_edits(alloc, &mut out, edits.as_slice())?;
         }
-        Work::Layout { desc } => push_desc(alloc, &mut out, desc)?,
+        Work::Layout { desc } | Work::Report { desc } => push_desc(alloc, &mut out, desc)?,
         Work::Read { desc, bytes } => {
             push_desc(alloc, &mut out, desc)?;
             out.push_str(" in")?;
             push_bytes(&mut out, bytes.as_slice())?;
         }
+        Work::Edit { desc, bytes, edits } => {
+            push_desc(alloc, &mut out, desc)?;
+            out.push_str(" in")?;
+            push_bytes(&mut out, bytes.as_slice())?;
+            push_edits(alloc, &mut out, edits.as_slice())?;
+        }
     }
     Ok(out)
+}
+
+fn push_edits(alloc: Global, out: &mut String, edits: &[Edit]) -> Result<(), AllocError> {
+    for edit in edits {
+        out.push_str(" then")?;
+        push_path(out, edit.path.as_slice())?;
+        out.push_str(" to ")?;
+        push_value(alloc, out, &edit.value)?;
+    }
+    Ok(())
+}
+
+fn push_path(out: &mut String, path: &[Step]) -> Result<(), AllocError> {
+    for step in path {
+        match step {
+            Step::Field(n) => write!(out, " field {n}")?,
+            Step::Item(n) => write!(out, " item {n}")?,
+            Step::Ok => out.push_str(" ok")?,
+            Step::Err => out.push_str(" err")?,
+            Step::Some => out.push_str(" some")?,
+        }
+    }
+    Ok(())
 }
 
 #[cycle(telling)]

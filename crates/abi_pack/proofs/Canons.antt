@@ -49,7 +49,7 @@ padded_at total shift n xs i long h =
     in_part shift n xs (zeros (total - (shift + n))) (shift + i) long (omega arith) (omega arith) ∙ ap (λ j. get_or xs j 0) back
 
 -- a bit that a value of the part holds is none of the test's that are written over it
-apart : (s : Shape) (v : Plain) (first : Bool) (at : SumLayout) → IsSide s first at
+pub apart : (s : Shape) (v : Plain) (first : Bool) (at : SumLayout) → IsSide s first at
     → (i k : ℕ) → i < size s → k < 8 → holds s v i k ≡ true → holds_test at.determinant first (start_of at first + i) k ≡ false
 apart s v first at side i k low small held =
     by_truths (is_imposed at.determinant.test (sign_of at first)) (is_tested at.determinant.test (start_of at first + i) k) (two_truths _) (two_truths _)

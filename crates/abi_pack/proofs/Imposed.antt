@@ -80,7 +80,7 @@ bit_stays o b false xs k low small inside other =
       bit_at-pow_other b k other,
     ) (omega arith)
 
-byte_stays : (o m : ℕ) (sign : Bool) (xs : List ℕ) (i : ℕ) → i ≢ o → get_or (put_bits o m sign xs) i 0 ≡ get_or xs i 0
+pub byte_stays : (o m : ℕ) (sign : Bool) (xs : List ℕ) (i : ℕ) → i ≢ o → get_or (put_bits o m sign xs) i 0 ≡ get_or xs i 0
 byte_stays o m true xs i other = get_or-set_other xs o i (bit_or (get_or xs o 0) m) 0 other
 byte_stays o m false xs i other = get_or-set_other xs o i (bit_and (get_or xs o 0) (bit_not w8 m)) 0 other
 

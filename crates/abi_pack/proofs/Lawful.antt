@@ -83,7 +83,7 @@ mutual
       let a = no_fault (part_fault rules target first t) (part_fault_in rules target (first + parts t) fs) h in
       (part_formed rules target first t a.0, parts_formed rules target (first + parts t) fs a.1)
 
-formed : (rules : Rules) (target : Target) (t : Tree) → desc_fault rules target t ≡ None → IsFormed target t
+pub formed : (rules : Rules) (target : Target) (t : Tree) → desc_fault rules target t ≡ None → IsFormed target t
 formed rules target t h = part_formed rules target 0 t (faultless_parts rules target t h).1
 
 -- what a description without a fault says of values and bytes is what its plan says
@@ -117,7 +117,7 @@ packed_image rules target t v none fit =
       canonical = tree_canonical rules target t v (bytes_of (packed s v)) none bytes (packed_canonical s v sound fit_);
     }
 
-tree_held : (rules : Rules) (target : Target) (t : Tree) (v : Plain) (f g : ByteMap) → desc_fault rules target t ≡ None → AreBytes f → AreBytes g
+pub tree_held : (rules : Rules) (target : Target) (t : Tree) (v : Plain) (f g : ByteMap) → desc_fault rules target t ≡ None → AreBytes f → AreBytes g
     → Shows rules target t v f → Shows rules target t v g → Agree (λ i k. holds rules target t v i k) (written_frame rules target t).size f g
 tree_held rules target t v f g none bf bg hf hg i k low small held =
     same_held (shape_of rules target t) v f g (faultless_covered rules target t none).sound ((faultless_shows rules target t v f none bf).0 hf) ((faultless_shows rules target t v g none bg).0 hg)

@@ -1,7 +1,8 @@
 -- Bytes of zeros, of a part, and of what follows.
-use Rattle.std.proofs.Common.{◌≡◌, ℕ, ◌+◌, ◌-◌, ◌<◌, ◌≤◌, ◌⊎◌, inl, inr, List, ◌++◌, length, get_or, ap, ◌∙◌, arith, length-append}
+use Rattle.std.proofs.Common.{◌≡◌, ℕ, ◌+◌, ◌-◌, ◌<◌, ◌≤◌, ◌⊎◌, inl, inr, List, ◌++◌, length, get_or, take, drop, ap, subst, ◌∙◌, arith, length-append}
 use Rattle.std.proofs.lemmas.Bool.{cases_lt}
 use Rattle.std.proofs.lemmas.List.{length-replicate, get_or-replicate, get_or-append_right, get_or_append_left}
+use Rattle.std.proofs.Math.Seq.{take-append_seam}
 use Rattle.std.proofs.Math.ListN.{get_or-eq_default}
 use Rattle.abi_pack.specs.Packed.{zeros}
 
@@ -31,3 +32,7 @@ behind_part n m b c i long h =
 
 pub parts_length : (n m k : ℕ) (b c : List ℕ) → length b ≡ m → length c ≡ k → length (zeros n ++ (b ++ c)) ≡ n + m + k
 parts_length n m k b c lb lc = let gap : length (zeros n) ≡ n = zeros_length n in simp length-append (omega arith)
+
+-- others written over the first of a list
+pub written_back : (new old : List ℕ) (n : ℕ) → length new ≡ n → take n (new ++ drop (length new) old) ≡ new
+written_back new old n e = subst (λ m. take m (new ++ drop (length new) old) ≡ new) e (take-append_seam new (drop (length new) old))

@@ -1,8 +1,8 @@
 -- Equal fields in a row.
-use Rattle.std.proofs.Common.{◌≡◌, ℕ, zero, suc, ◌+◌, ◌*◌, ◌-◌, ◌<◌, ◌≤◌, List, [], ◌∷◌, ◌++◌, ◌&&◌, length, Bool, true, false, refl, ap, ◌∙◌, ◌⊎◌, inl, inr, sym, arith}
+use Rattle.std.proofs.Common.{◌≡◌, ℕ, zero, suc, ◌+◌, ◌*◌, ◌-◌, ◌<◌, ◌≤◌, List, [], ◌∷◌, ◌++◌, length, Bool, true, false, refl, ap, ◌∙◌, ◌⊎◌, inl, inr, sym, arith}
 use mathlib.Core.Path.{fun_ext}
 use Rattle.abi_pack.specs.ByteMap.{ByteMap, seen_from}
-use Rattle.abi_pack.specs.ValueShown.{is_shown, is_shown_in, value_shown, values_shown}
+use Rattle.abi_pack.specs.ValueShown.{value_shown, values_shown}
 use Rattle.abi_pack.proofs.Offsets.{from_from, joined_end, joined_push}
 use Rattle.abi_pack.specs.Plain.{Plains, list, end, more}
 use Rattle.abi_layout.specs.Shape.{Shape, fields, field, size, size_in, repeated}
@@ -76,36 +76,6 @@ row_size_next n i s h = rw (row_next n i s h) (omega arith)
 
 pub from_nothing : (f : ByteMap) → seen_from 0 f ≡ f
 from_nothing f = fun_ext (λ i. ap f (omega arith))
-
-shown_next : (n i : ℕ) (s : Shape) (f : ByteMap) (o x y : ℕ) → i < n → x ≡ o → y ≡ o + size s
-    → is_shown_in (repeated (n - i) s) (seen_from o f) ≡ (is_shown s (seen_from x f) && is_shown_in (repeated (n - (i + 1)) s) (seen_from y f))
-shown_next n i s f o x y h ex ey = rw (row_next n i s h, from_from f x o 0 (omega arith), from_from f y o (0 + size s) (omega arith)) refl
-
-pub row_shown_on : (n i : ℕ) (s : Shape) (f : ByteMap) (o y : ℕ) (r : Bool) → i < n → y ≡ o + size s → true ≡ is_shown s (seen_from o f)
-    → is_shown_in (repeated (n - i) s) (seen_from o f) ≡ r → is_shown_in (repeated (n - (i + 1)) s) (seen_from y f) ≡ r
-row_shown_on n i s f o y r h ey one e = let next = shown_next n i s f o o y h refl ey in sym (rw (← one) at next) ∙ e
-
-pub row_shown_not : (n i : ℕ) (s : Shape) (f : ByteMap) (o : ℕ) (r : Bool) → i < n → false ≡ is_shown s (seen_from o f)
-    → is_shown_in (repeated (n - i) s) (seen_from o f) ≡ r → false ≡ r
-row_shown_not n i s f o r h one e = let next = shown_next n i s f o o (o + size s) h refl refl in sym (rw (← one) at next) ∙ e
-
-both : (p q r : Bool) → q ≡ p → r ≡ p → p ≡ (q && r)
-both true q r e f = rw (e, f) refl
-both false q r e f = rw e refl
-
--- items without bytes all stand at one place
-pub row_point : (n : ℕ) (s : Shape) (f : ByteMap) → 0 < n → size s ≡ 0 → is_shown s f ≡ is_shown_in (repeated n s) f
-row_point zero s f h none = absurd (omega arith)
-row_point (suc zero) s f h none = sym (and_true _) ∙ ap (λ g. is_shown s g && true) (sym (from_nothing f))
-  where
-    and_true : (p : Bool) → (p && true) ≡ p
-    and_true true = refl
-    and_true false = refl
-row_point (suc (suc n)) s f h none =
-    let nothing : 0 + size s ≡ 0 = omega arith in
-    let rest : is_shown s f ≡ is_shown_in (repeated (suc n) s) f = row_point (suc n) s f (omega arith) none in
-    both (is_shown s f) (is_shown s (seen_from 0 f)) (is_shown_in (repeated (suc n) s) (seen_from (0 + size s) f)) (ap (is_shown s) (from_nothing f))
-    (ap (λ o. is_shown_in (repeated (suc n) s) (seen_from o f)) nothing ∙ ap (is_shown_in (repeated (suc n) s)) (from_nothing f) ∙ sym rest)
 
 told_next : (n i : ℕ) (s : Shape) (f : ByteMap) (o x y : ℕ) (v : Value) → i < n → x ≡ o → y ≡ o + size s → plain v ≡ value_shown s (seen_from x f)
     → values_shown (repeated (n - i) s) (seen_from o f) ≡ more (plain v) (values_shown (repeated (n - (i + 1)) s) (seen_from y f))

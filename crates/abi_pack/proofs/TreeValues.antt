@@ -90,7 +90,7 @@ pub planned_side : (rules : Rules) (target : Target) (side : Bool → Tree) (fir
 planned_side rules target side true = refl
 planned_side rules target side false = refl
 
-same_start : (rules : Rules) (target : Target) (side : Bool → Tree) (first : Bool)
+pub same_start : (rules : Rules) (target : Target) (side : Bool → Tree) (first : Bool)
     → tree.variant_start (tree.placement_of rules target side) first
     ≡ shape.start_of (sum_layout_of rules (written_frame rules target (side true)) (written_frame rules target (side false))) first
 same_start rules target side true = refl

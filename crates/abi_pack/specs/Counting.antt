@@ -20,9 +20,9 @@ abbrev mutual
 abbrev pub max_values : ℕ
 max_values = 8388608
 
--- counted up to one above that number
-abbrev pub counted : Shape → ByteMap → ℕ
-counted s f = min (values_in (value_shown s f)) (max_values + 1)
+-- added to a count, up to one above that number
+abbrev pub counted : ℕ → Shape → ByteMap → ℕ
+counted before s f = min (before + values_in (value_shown s f)) (max_values + 1)
 
-abbrev pub counted_in : Shapes → ByteMap → ℕ
-counted_in fs f = min (values_in_all (values_shown fs f)) (max_values + 1)
+abbrev pub counted_in : ℕ → Shapes → ByteMap → ℕ
+counted_in before fs f = min (before + values_in_all (values_shown fs f)) (max_values + 1)

@@ -10,6 +10,7 @@ use Rattle.abi_layout.specs.Faults.{desc_fault}
 use Rattle.abi_layout.specs.Frames.{written_frame}
 use Rattle.abi_layout.specs.Trees.{Tree}
 use Rattle.abi_pack.specs.ByteMap.{ByteMap, AreBytes, bytes_of}
+use Rattle.abi_pack.specs.EditLists.{PlainEdit, edits_left}
 use Rattle.abi_pack.specs.Jobs.{job_fault, image_of}
 use Rattle.abi_pack.specs.Plain.{Plain}
 use Rattle.abi_pack.specs.Reading.{value_read}
@@ -98,7 +99,7 @@ abbrev pub ReadLaw : Type 0
 ReadLaw = (rules : Rules) (target : Target) (t : Tree) (v : Plain) (bs : List ℕ) → Faultless rules target t → AreBytes (bytes_of bs)
     → (value_read rules target t bs ≡ Some v) ↔ (IsLong rules target t bs × Shows rules target t v (bytes_of bs))
 
--- the image of a job without a fault has the canonical bytes of its value
+-- the image of a job without a fault has the canonical bytes of the value that its edits leave
 abbrev pub ImageLaw : Type 0
-ImageLaw = (rules : Rules) (target : Target) (t : Tree) (v : Plain) → job_fault rules target t v ≡ None
-    → IsImageOf rules target t v (image_of rules target t v).bytes
+ImageLaw = (rules : Rules) (target : Target) (t : Tree) (v : Plain) (es : List PlainEdit) → job_fault rules target t v es ≡ None
+    → IsImageOf rules target t (edits_left rules target t v es) (image_of rules target t (edits_left rules target t v es)).bytes

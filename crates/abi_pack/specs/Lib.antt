@@ -2,6 +2,9 @@ pub mod Agree
 pub mod Atoms
 pub mod ByteMap
 pub mod Counting
+pub mod EditLaws
+pub mod EditLists
+pub mod Edits
 pub mod Jobs
 pub mod Laws
 pub mod Packed
@@ -11,6 +14,7 @@ pub mod PlanShape
 pub mod Raw
 pub mod Reading
 pub mod Scalars
+pub mod ShapeEdits
 pub mod Shows
 pub mod Consistent
 pub mod ValueShown

@@ -1,5 +1,5 @@
 -- Whether bytes show a value, and which: what reading computes.
-use Rattle.std.specs.Prelude.{◌+◌, Bool, true, ◌&&◌}
+use Rattle.std.specs.Prelude.{ℕ, zero, suc, ◌+◌, Bool, true, ◌&&◌}
 use Rattle.abi_det.specs.State.{is_state_ok}
 use Rattle.abi_pack.specs.ByteMap.{ByteMap, seen_from}
 use Rattle.abi_pack.specs.Plain.{Plain, Plains, list, variant, end, more}
@@ -17,6 +17,11 @@ abbrev mutual
   pub is_shown_in : Shapes → ByteMap → Bool
   is_shown_in last f = true
   is_shown_in (field gap s fs) f = is_shown s (seen_from gap f) && is_shown_in fs (seen_from (gap + size s) f)
+
+-- it is so at each of n places: of the bytes as they are, of those `stride` bytes on, and so on
+abbrev pub at_each : ℕ → ℕ → (ByteMap → Bool) → ByteMap → Bool
+at_each zero stride is f = true
+at_each (suc n) stride is f = is f && at_each n stride is (seen_from stride f)
 
 -- the value that they then show
 abbrev mutual

@@ -1,5 +1,6 @@
 ghost use Rattle.std.specs.Prelude.{◌≡◌};
 
+use crate::plan::EditError;
 use abi_layout::DescError;
 use abi_num::OutOfMemory;
 
@@ -34,6 +35,21 @@ pub enum AbiError {
     OutOfMemory,
     /// The value is none of the description's.
     WrongValue,
+    /// The first step of the edit's path that fails names no part of the description.
+    NoSuchPath {
+        /// The edit's number, from 0.
+        edit: u32,
+    },
+    /// The first step of the edit's path that fails enters a variant in which the value is not.
+    WrongVariant {
+        /// The edit's number, from 0.
+        edit: u32,
+    },
+    /// What the edit is to put there is none of the part's values.
+    WrongPart {
+        /// The edit's number, from 0.
+        edit: u32,
+    },
 }
 
 impl From<OutOfMemory> for AbiError {
@@ -60,6 +76,21 @@ impl From<DescError> for AbiError {
             DescError::NotStable { part } => AbiError::NotStable { part },
             DescError::TooLarge { part } => AbiError::TooLarge { part },
             DescError::OutOfMemory => AbiError::OutOfMemory,
+        }
+    }
+}
+
+impl AbiError {
+    ghost use Rattle.abi_pack.specs.Jobs.{of_edit};
+
+    /// The same error, of an edit of that number.
+    pub(crate) fn of_edit(number: u32, error: EditError) -> AbiError
+        ensures { result ≡ of_edit number error }
+    {
+        match error {
+            EditError::NoSuchPath => AbiError::NoSuchPath { edit: number },
+            EditError::WrongVariant => AbiError::WrongVariant { edit: number },
+            EditError::WrongPart => AbiError::WrongPart { edit: number },
         }
     }
 }

@@ -1,6 +1,9 @@
-ghost use Rattle.std.specs.Prelude.{◌≡◌, [], None, IfOk, IfErr};
+ghost use Rattle.std.specs.Prelude.{◌≡◌, ◌<◌, ◌^◌, None, IfOk, IfErr, OnOk, length};
 ghost use Rattle.abi_layout.specs.Trees.{tree};
-ghost use Rattle.abi_pack.specs.Jobs.{IsJobFault, job_fault, image_of};
+ghost use Rattle.abi_pack.specs.EditLists.{plain_edits, edits_left};
+ghost use Rattle.abi_pack.specs.Jobs.{IsJobFault, job_fault, image_of, AreEditsOf, AreRefused};
+ghost use Rattle.abi_pack.specs.Packing.{OfPlan};
+ghost use Rattle.abi_pack.specs.Reading.{IsShown};
 ghost use Rattle.abi_pack.specs.Values.{IsImageOf};
 ghost use Rattle.abi_pack.specs.View.{plain};
 
@@ -11,12 +14,12 @@ use crate::step::Edit;
 use crate::value::Value;
 use abi_det::Rules;
 use abi_layout::Desc;
-use abi_num::Target;
+use abi_num::{Items, Target};
 use std::alloc::Global;
 
-/// Packs a value of a description. There must be no edits. Refused with the first fault: that of `layout_of`,
-/// then `WrongValue` where the value is none of the description's.
-#[tactic(auto, using(crate::proofs::Promised::wrong_value, crate::proofs::Promised::no_job_fault, crate::proofs::Promised::image_made, crate::proofs::Promised::image_canonical))]
+/// Packs a value of a description, and then edits it in place by each edit in turn. There must be fewer than
+/// 2^32 edits. Refused with the first fault: that of `layout_of`, then `WrongValue` where the value is none of the
+/// description's, then that of the first edit that fails on the value as those before it left it.
 pub fn run(
     alloc: Global,
     target: &Target,
@@ -24,16 +27,35 @@ pub fn run(
     value: &Value,
     edits: &[Edit],
 ) -> Result<Image, AbiError>
-    requires no_edits { edits.now ≡ [] }
-    ensures faultless { IfOk result (λ _. job_fault Rules.One target.now (tree desc.now) (plain value.now) ≡ None) }
-    ensures image { IfOk result (λ image. image ≡ image_of Rules.One target.now (tree desc.now) (plain value.now)) }
-    ensures canonical { IfOk result (λ image. IsImageOf Rules.One target.now (tree desc.now) (plain value.now) image.bytes) }
-    ensures err { IfErr result (IsJobFault (job_fault Rules.One target.now (tree desc.now) (plain value.now))) }
+    requires few_edits { length edits.now < 2 ^ 32 }
+    ensures faultless { IfOk result (λ _. job_fault Rules.One target.now (tree desc.now) (plain value.now) (plain_edits edits.now) ≡ None) }
+    ensures image { IfOk result (λ image. image ≡ image_of Rules.One target.now (tree desc.now) (edits_left Rules.One target.now (tree desc.now) (plain value.now) (plain_edits edits.now))) }
+    ensures canonical { IfOk result (λ image. IsImageOf Rules.One target.now (tree desc.now) (edits_left Rules.One target.now (tree desc.now) (plain value.now) (plain_edits edits.now)) image.bytes) }
+    ensures err { IfErr result (IsJobFault (job_fault Rules.One target.now (tree desc.now) (plain value.now) (plain_edits edits.now))) }
 {
     let plan = Plan::of(alloc, target, desc)?;
     if !plan.fits(value) {
         return Err(AbiError::WrongValue);
     }
-    let bytes = plan.packed(alloc, value)?;
-    Ok(plan.into_image(bytes))
+    let mut bytes = plan.packed(alloc, value)?;
+    match edit_each(&plan, &mut bytes, edits) {
+        Ok(()) => Ok(plan.into_image(Items::from(bytes))),
+        Err(error) => Err(error),
+    }
+}
+
+/// Edits the bytes, which must show a value, by each edit in turn. There must be fewer than 2^32 edits. Refused with
+/// the fault of the first that fails; the bytes are then as those before it left them. Takes no memory.
+pub fn edit_each(plan: &Plan, bytes: &mut [u8], edits: &[Edit]) -> Result<(), AbiError>
+    requires shown { OfPlan plan.now (λ rules target t. IsShown rules target t bytes.old) }
+    requires few_edits { length edits.now < 2 ^ 32 }
+    ensures ok { OnOk result (OfPlan plan.now (λ rules target t. AreEditsOf rules target t (plain_edits edits.now) bytes.old bytes.new)) }
+    ensures err { IfErr result (λ error. OfPlan plan.now (λ rules target t. AreRefused rules target t (plain_edits edits.now) bytes.old error)) }
+{
+    for (number, edit) in edits.iter().enumerate() {
+        if let Err(error) = plan.edit(bytes, edit.path.as_slice(), &edit.value) {
+            return Err(AbiError::of_edit(number as u32, error));
+        }
+    }
+    Ok(())
 }

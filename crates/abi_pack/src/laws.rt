@@ -14,6 +14,7 @@ ghost use Rattle.abi_pack.specs.Laws.{
   ReadLaw,
   ImageLaw,
 };
+ghost use Rattle.abi_pack.specs.EditLaws.{OneEditLaw, CanonicalEditLaw, EditedBytesLaw};
 
 /// Every value that fits has exactly one canonical byte string.
 #[tactic(auto, using(crate::proofs::Lawful::canonical_law))]
@@ -81,8 +82,26 @@ pub fn what_is_read_is_shown()
     ensures { ReadLaw }
 {}
 
-/// The image of a job without a fault has the canonical bytes of its value.
+/// The image of a job without a fault has the canonical bytes of the value that its edits leave.
 #[tactic(auto, using(crate::proofs::Promised::image_law))]
 pub fn image_is_canonical()
     ensures { ImageLaw }
+{}
+
+/// No second byte string is the edit of bytes that show a value.
+#[tactic(auto, using(crate::proofs::EditLaws::one_edit_law))]
+pub fn one_edit()
+    ensures { OneEditLaw }
+{}
+
+/// Canonical bytes become the canonical bytes of the edited value.
+#[tactic(auto, using(crate::proofs::EditLaws::canonical_edit_law))]
+pub fn edited_bytes_stay_canonical()
+    ensures { CanonicalEditLaw }
+{}
+
+/// What edits compute is the edit of bytes that show a value, one after the other.
+#[tactic(auto, using(crate::proofs::EditedLists::edited_bytes_law))]
+pub fn what_edits_compute_is_edited()
+    ensures { EditedBytesLaw }
 {}

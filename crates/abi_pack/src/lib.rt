@@ -2,9 +2,12 @@
 #![tactic(auto)]
 
 mod abi_error;
+mod change;
 mod counting;
+mod edit_fault;
 mod fits;
 mod image;
+mod inner;
 mod integer;
 mod jobs;
 pub mod laws;
@@ -12,6 +15,7 @@ mod layers;
 mod plan;
 mod raw;
 mod read;
+mod restore;
 mod scalars;
 mod shown;
 mod sides;
@@ -25,7 +29,7 @@ pub use abi_error::AbiError;
 pub use abi_layout::{Placed, PlacedList};
 pub use counting::MAX_VALUES;
 pub use image::Image;
-pub use jobs::run;
-pub use plan::{Plan, ReadError};
+pub use jobs::{edit_each, run};
+pub use plan::{EditError, Plan, ReadError};
 pub use step::{Edit, Edits, Step, Steps};
 pub use value::{Bytes, Value, Values};

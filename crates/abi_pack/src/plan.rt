@@ -1,9 +1,15 @@
+ghost use Rattle.std.specs.Prelude.{slice_index};
+ghost use Rattle.abi_pack.specs.ByteMap.{AreBytes};
+
+use crate::change::change;
 use crate::counting::{MAX_VALUES, values};
+use crate::edit_fault::edit_fault;
 use crate::fits::fits;
 use crate::image::Image;
 use crate::read::read;
 use crate::shown::is_shown;
 use crate::sides::size;
+use crate::step::Step;
 use crate::value::{Bytes, Value};
 use crate::write::{packed, write};
 use abi_det::{Layout, Rules};
@@ -21,6 +27,17 @@ pub enum ReadError {
     IllegalBytes,
     /// Memory was refused, or the bytes show a value that has more than `MAX_VALUES` values in it.
     OutOfMemory,
+}
+
+/// Why a value is not edited.
+#[derive(Debug, Clone, Copy, PartialEq, Eq)]
+pub enum EditError {
+    /// The first step that fails names no part of the description.
+    NoSuchPath,
+    /// The first step that fails enters a variant in which the value is not.
+    WrongVariant,
+    /// The value to be put there is none of the part's.
+    WrongPart,
 }
 
 /// What each byte of a description means, enough to pack its values and to read them back; its layout, and its
@@ -51,10 +68,11 @@ impl Model for Plan {
 }
 
 impl Plan {
-    ghost use Rattle.std.specs.Prelude.{◌≡◌, ◌↔◌, true, IsTrue, IfOk, IfErr, length};
+    ghost use Rattle.std.specs.Prelude.{◌≡◌, ◌↔◌, true, IsTrue, IfOk, IfErr, OnOk, OnErr, length};
     ghost use Rattle.abi_layout.specs.Trees.{tree};
     ghost use Rattle.abi_layout.specs.Faults.{IsFault, desc_fault};
     ghost use Rattle.abi_layout.specs.PartView.{shape};
+    ghost use Rattle.abi_pack.specs.Edits.{IsEdit, IsRefused};
     ghost use Rattle.abi_pack.specs.Packed.{packed};
     ghost use Rattle.abi_pack.specs.Packing.{IsPlanOf, OfPlan};
     ghost use Rattle.abi_pack.specs.Reading.{IsShown, IsReading};
@@ -110,9 +128,9 @@ impl Plan {
     }
 
     /// The canonical bytes of the value, which must fit.
-    pub(crate) fn packed(&self, alloc: Global, value: &Value) -> Result<Bytes, OutOfMemory>
+    pub(crate) fn packed(&self, alloc: Global, value: &Value) -> Result<Vec<u8>, OutOfMemory>
         requires fits { OfPlan self.now (λ rules target t. fits rules target t (plain value.now) ≡ true) }
-        ensures bytes { IfOk result (λ bytes. bytes ≡ packed (shape self.now.part) (plain value.now)) }
+        ensures bytes { IfOk result (λ bytes. bytes.items ≡ packed (shape self.now.part) (plain value.now)) }
     {
         let bytes = packed(alloc, &self.part, value)?;
         Ok(bytes)
@@ -139,6 +157,25 @@ impl Plan {
         is_shown(&self.part, bytes, 0)
     }
 
+    /// Puts the value in place of the part at the path, in bytes that show a value: they then show the edited value,
+    /// with 0 at every bit of the part's bytes that it does not hold, and no byte beside these changes. Refused where
+    /// the path leads nowhere or the value is none of the part's; the bytes are then as they were. Takes no memory.
+    pub fn edit(&self, bytes: &mut [u8], path: &[Step], value: &Value) -> Result<(), EditError>
+        requires shown { OfPlan self.now (λ rules target t. IsShown rules target t bytes.old) }
+        ensures ok { OnOk result (OfPlan self.now (λ rules target t. IsEdit rules target t path.now (plain value.now) bytes.old bytes.new)) }
+        ensures err { IfErr result (λ error. OfPlan self.now (λ rules target t. IsRefused rules target t path.now (plain value.now) bytes.old error)) }
+        ensures unchanged { OnErr result (bytes.new ≡ bytes.old) }
+    {
+        are_bytes(bytes);
+        match edit_fault(&self.part, bytes, 0, path, value) {
+            Some(error) => Err(error),
+            None => {
+                change(&self.part, bytes, path, value);
+                Ok(())
+            }
+        }
+    }
+
     /// The value that the bytes show.
     pub fn read(&self, alloc: Global, bytes: &[u8]) -> Result<Value, ReadError>
         ensures { OfPlan self.now (λ rules target t. IsReading rules target t bytes.now result) }
@@ -149,7 +186,7 @@ impl Plan {
         if !is_shown(&self.part, bytes, 0) {
             return Err(ReadError::IllegalBytes);
         }
-        if MAX_VALUES < values(&self.part, bytes, 0) {
+        if MAX_VALUES < values(&self.part, bytes, 0, 0) {
             return Err(ReadError::OutOfMemory);
         }
         match read(alloc, &self.part, bytes, 0) {
@@ -158,3 +195,8 @@ impl Plan {
         }
     }
 }
+
+/// Each is a byte: of bytes that a later call changes this is said before it.
+fn are_bytes(bytes: &[u8])
+    ensures { AreBytes (slice_index bytes.now) }
+{}

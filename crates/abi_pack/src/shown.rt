@@ -1,8 +1,8 @@
-ghost use Rattle.std.specs.Prelude.{◌≡◌, ◌+◌, ◌≤◌, ◌<◌, ◌^◌, length, slice_index};
+ghost use Rattle.std.specs.Prelude.{◌≡◌, ◌+◌, ◌*◌, ◌≤◌, ◌<◌, ◌^◌, length, slice_index};
 ghost use Rattle.abi_pack.specs.ByteMap.{seen_from};
 ghost use Rattle.abi_layout.specs.Shape.{size, size_in, repeated};
 ghost use Rattle.abi_pack.specs.Consistent.{IsConsistent, AreConsistent};
-ghost use Rattle.abi_pack.specs.ValueShown.{is_shown, is_shown_in};
+ghost use Rattle.abi_pack.specs.ValueShown.{is_shown, is_shown_in, at_each};
 ghost use Rattle.abi_pack.specs.View.{shape, shapes};
 
 use crate::sides::{side, size, start};
@@ -60,7 +60,7 @@ fn are_shown(fields: &[PartField], bytes: &[u8], at: usize) -> bool
 
 /// Whether the bytes from `at` on show `len` values of the item.
 #[cycle(shown)]
-#[tactic(auto, using(crate::proofs::Rows::row_size_next, crate::proofs::Rows::row_shown_on, crate::proofs::Rows::row_shown_not, crate::proofs::Rows::row_point))]
+#[tactic(auto, using(crate::proofs::Rows::row_nodes, crate::proofs::Rows::row_sound, crate::proofs::Rows::row_one_size, crate::proofs::Rows::row_size))]
 fn each_shown(item: &Part, len: u64, bytes: &[u8], at: usize) -> bool
     requires sound { AreConsistent (repeated len (shape item.now)) }
     requires small { length bytes.now < 2 ^ 32 }
@@ -70,16 +70,87 @@ fn each_shown(item: &Part, len: u64, bytes: &[u8], at: usize) -> bool
     if len == 0 {
         return true;
     }
-    let size = size(item);
-    if size == 0 {
-        return is_shown(item, bytes, at);
+    let stride = size(item);
+    spaced_shown(item, len, stride, bytes, at)
+}
+
+/// Whether the bytes from each of `count` places on show a value of the part. The first place is `at`, and each
+/// next lies `stride` bytes on. Goes over the fields first, so that one without bytes is asked once for all places.
+#[cycle(shown)]
+fn spaced_shown(part: &Part, count: u64, stride: usize, bytes: &[u8], at: usize) -> bool
+    requires sound { IsConsistent (shape part.now) }
+    requires small { length bytes.now < 2 ^ 32 }
+    requires some { 0 < count }
+    requires apart { size (shape part.now) ≤ stride }
+    requires near { stride ≤ length bytes.now }
+    requires within { at + count * stride + size (shape part.now) ≤ length bytes.now + stride }
+    ensures { result ≡ at_each count stride (is_shown (shape part.now)) (seen_from at (slice_index bytes.now)) }
+{
+    if size(part) == 0 {
+        return is_shown(part, bytes, at);
     }
+    match part {
+        Part::Struct { fields, .. } => {
+            spaced_fields_shown(fields.as_slice(), count, stride, bytes, at)
+        }
+        Part::Array { item, len, .. } => {
+            let step = size(item);
+            if stride == step * *len as usize {
+                spaced_shown(item, count * *len, step, bytes, at)
+            } else {
+                shown_in_turn(part, count, stride, bytes, at)
+            }
+        }
+        Part::Scalar(_) | Part::Raw { .. } | Part::Sum { .. } => {
+            shown_in_turn(part, count, stride, bytes, at)
+        }
+    }
+}
+
+/// Whether the bytes from each of the places on show a value of each field.
+#[cycle(shown)]
+fn spaced_fields_shown(
+    fields: &[PartField],
+    count: u64,
+    stride: usize,
+    bytes: &[u8],
+    at: usize,
+) -> bool
+    requires sound { AreConsistent (shapes fields.now) }
+    requires small { length bytes.now < 2 ^ 32 }
+    requires some { 0 < count }
+    requires apart { size_in (shapes fields.now) ≤ stride }
+    requires near { stride ≤ length bytes.now }
+    requires within { at + count * stride + size_in (shapes fields.now) ≤ length bytes.now + stride }
+    ensures { result ≡ at_each count stride (is_shown_in (shapes fields.now)) (seen_from at (slice_index bytes.now)) }
+{
+    match fields.split_first() {
+        Some((field, fields)) => {
+            let start = at + field.gap as usize;
+            let end = start + size(&field.part);
+            let first = spaced_shown(&field.part, count, stride, bytes, start);
+            first && spaced_fields_shown(fields, count, stride, bytes, end)
+        }
+        None => true,
+    }
+}
+
+/// Whether the bytes from each of the places on show a value of the part, asked of one place after another.
+#[cycle(shown)]
+#[tactic(auto, using(crate::proofs::Spaced::each_on, crate::proofs::Spaced::each_not, crate::proofs::Spaced::times_next))]
+fn shown_in_turn(part: &Part, count: u64, stride: usize, bytes: &[u8], at: usize) -> bool
+    requires sound { IsConsistent (shape part.now) }
+    requires small { length bytes.now < 2 ^ 32 }
+    requires near { stride ≤ length bytes.now }
+    requires within { at + count * stride + size (shape part.now) ≤ length bytes.now + stride }
+    ensures { result ≡ at_each count stride (is_shown (shape part.now)) (seen_from at (slice_index bytes.now)) }
+{
     let mut start = at;
-    for i in 0..len {
-        if !is_shown(item, bytes, start) {
+    for i in 0..count {
+        if !is_shown(part, bytes, start) {
             return false;
         }
-        start += size;
+        start += stride;
     }
     true
 }

@@ -57,6 +57,13 @@ fn option(rt: &impl Abort, alloc: Global, some: Desc) -> Desc {
     }
 }
 
+fn array(rt: &impl Abort, alloc: Global, item: Desc, len: u64) -> Desc {
+    Desc::Array {
+        item: Box::new(alloc, item).expect(rt, "memory"),
+        len,
+    }
+}
+
 fn int(magnitude: u128) -> Value {
     Value::Int {
         magnitude,
@@ -491,10 +498,7 @@ fn bytes_that_are_not_read(rt: HostRuntime) {
 fn units(rt: &impl Abort, alloc: Global, depth: u32) -> Desc {
     let mut desc = Desc::Prim(Prim::Unit);
     for _ in 0..depth {
-        desc = Desc::Array {
-            item: Box::new(alloc, desc).expect(rt, "memory"),
-            len: 128,
-        };
+        desc = array(rt, alloc, desc, 128);
     }
     desc
 }
@@ -512,4 +516,51 @@ fn items_without_bytes_are_read_up_to_a_number(rt: HostRuntime) {
     let many = plan(&rt, alloc, "le64", &units(&rt, alloc, 4));
     assert!(rt; many.shown(&[]));
     assert!(rt; matches!(many.read(alloc, &[]), Err(ReadError::OutOfMemory)));
+    // four times 128 ^ 3 units are 2 ^ 23, and the lists come to them
+    let mut fields = Items::new(alloc);
+    for _ in 0..4 {
+        let field = Field {
+            name: text(&rt, alloc, "f"),
+            ty: units(&rt, alloc, 3),
+        };
+        fields.push(field).expect(&rt, "memory");
+    }
+    let together = plan(&rt, alloc, "le64", &record(&rt, alloc, fields, None));
+    assert!(rt; together.shown(&[]));
+    assert!(rt; matches!(together.read(alloc, &[]), Err(ReadError::OutOfMemory)));
+}
+
+#[test]
+fn every_field_of_every_item_is_checked(rt: HostRuntime) {
+    let alloc = rt.alloc();
+    // bytes 0 and 4 are the truth value and the last field, bytes 2 and 3 the number, bytes 1 and 5 are free
+    let prims = [
+        Prim::Bool,
+        Prim::Unit,
+        Prim::NonZeroU16,
+        Prim::Unit,
+        Prim::U8,
+    ];
+    let item = of_prims(&rt, alloc, &prims, None);
+    // two lists of two
+    let desc = array(&rt, alloc, array(&rt, alloc, item, 2), 2);
+    let plan = plan(&rt, alloc, "le64", &desc);
+    let item = [1, 9, 0, 1, 7, 9];
+    let mut bytes = [0u8; 24];
+    for i in 0..24 {
+        bytes[i] = item[i % 6];
+    }
+    assert!(rt; plan.shown(&bytes));
+    for i in 0..4 {
+        let mut odd = bytes;
+        odd[6 * i] = 2;
+        assert!(rt; !plan.shown(&odd));
+        let mut none = bytes;
+        none[6 * i + 3] = 0;
+        assert!(rt; !plan.shown(&none));
+        let mut free = bytes;
+        free[6 * i + 1] = 2;
+        free[6 * i + 5] = 2;
+        assert!(rt; plan.shown(&free));
+    }
 }

@@ -6,22 +6,22 @@ ghost use Rattle.abi_pack.specs.Consistent.{IsConsistent, AreConsistent};
 ghost use Rattle.abi_pack.specs.View.{shape, shapes, plain, plains};
 
 use crate::sides::{name_variant, side, size, start};
-use crate::value::{Bytes, Value};
+use crate::value::Value;
 use crate::{raw, scalars};
 use abi_layout::{Part, PartField};
-use abi_num::{Items, OutOfMemory};
+use abi_num::OutOfMemory;
 use std::alloc::Global;
 
 /// The value's canonical bytes.
-pub(crate) fn packed(alloc: Global, part: &Part, value: &Value) -> Result<Bytes, OutOfMemory>
+pub(crate) fn packed(alloc: Global, part: &Part, value: &Value) -> Result<Vec<u8>, OutOfMemory>
     requires sound { IsConsistent (shape part.now) }
     requires small { size (shape part.now) < 2 ^ 32 }
     requires fits { fits (shape part.now) (plain value.now) ≡ true }
-    ensures { IfOk result (λ bytes. bytes ≡ packed (shape part.now) (plain value.now)) }
+    ensures { IfOk result (λ bytes. bytes.items ≡ packed (shape part.now) (plain value.now)) }
 {
     let mut bytes = vec![in alloc; 0; size(part)]?;
     write(part, value, &mut bytes);
-    Ok(Items::from(bytes))
+    Ok(bytes)
 }
 
 /// Writes the value's canonical bytes, whatever stood there.

@@ -1,5 +1,5 @@
 -- What it says of a description and its value that a job has no fault.
-use Rattle.std.proofs.Common.{◌≡◌, Bool, true, false, not, Option, Some, None, cond, ltb, refl}
+use Rattle.std.proofs.Common.{◌≡◌, Bool, true, false, not, Option, Some, None, List, cond, ltb, refl}
 use Rattle.std.specs.Option.{option_map}
 use Rattle.abi_num.specs.Target.{is_row}
 use Rattle.abi_num.specs.declared.target.Target.{Target}
@@ -8,7 +8,8 @@ use Rattle.abi_layout.specs.Faults.{part_fault, desc_fault}
 use Rattle.abi_layout.specs.Trees.{Tree, parts}
 use Rattle.abi_layout.specs.declared.desc_error.DescError.{DescError}
 use Rattle.abi_layout.specs.declared.desc_error.DescError.TheVariants as of_desc
-use Rattle.abi_pack.specs.Jobs.{of_description, value_fault, job_fault}
+use Rattle.abi_pack.specs.EditLists.{PlainEdit}
+use Rattle.abi_pack.specs.Jobs.{of_description, value_fault, edits_fault, job_fault}
 use Rattle.abi_pack.specs.Plain.{Plain}
 use Rattle.abi_pack.specs.Values.{fits}
 use Rattle.abi_pack.specs.declared.abi_error.AbiError.{AbiError}
@@ -43,10 +44,11 @@ pub described : (rules : Rules) (target : Target) (t : Tree) → desc_fault rule
 unfolding desc_fault
 described rules target t e = row_if (is_row target) (ltb 4096 (parts t)) (part_fault rules target 0 t) e
 
-pub faultless : (rules : Rules) (target : Target) (t : Tree) (v : Plain) → job_fault rules target t v ≡ None → IsFaultless rules target t v
+pub faultless : (rules : Rules) (target : Target) (t : Tree) (v : Plain) (es : List PlainEdit) → job_fault rules target t v es ≡ None → IsFaultless rules target t v
 unfolding job_fault
-faultless rules target t v e =
-    let n = neither (option_map of_description (desc_fault rules target t)) (value_fault rules target t v) e in
+faultless rules target t v es e =
+    let n = neither (option_map of_description (desc_fault rules target t)) (or_else (value_fault rules target t v) (edits_fault rules target t v 0 es)) e in
+    let m = neither (value_fault rules target t v) (edits_fault rules target t v 0 es) n.1 in
     let none = unmapped of_description (desc_fault rules target t) n.0 in
     let d = described rules target t none in
-    record { desc = none; row = d.0; parts = d.1; fit = fits_if (fits rules target t v) n.1 }
+    record { desc = none; row = d.0; parts = d.1; fit = fits_if (fits rules target t v) m.0 }

@@ -5,7 +5,7 @@ use Rattle.std.specs.Io.KnownBytes.{Appends, Keeps}
 use Rattle.serde_json.specs.Data.{Data}
 use Rattle.abi_document.specs.Forms.{by_name}
 use Rattle.abi_document.specs.declared.command.Command.{Command}
-use Rattle.abi_document.specs.declared.command.Command.TheVariants.{Pack, Layout, Read}
+use Rattle.abi_document.specs.declared.command.Command.TheVariants.{Pack, Layout, Read, Edit, Report}
 use Rattle.abi_tool.specs.declared.answer.Answer.{Answer}
 use Rattle.abi_tool.specs.declared.answer.Answer.TheVariants.{Done, TooLong, NotJson, NotAJob, Refused}
 use Rattle.abi_tool.specs.declared.answer.Reply.{Reply}
@@ -17,7 +17,9 @@ use Rattle.abi_tool.specs.declared.command.Invocation.TheVariants.{Document}
 
 -- the commands that read a document
 abbrev pub commands : List (List ℕ × Command)
-commands = (codes "pack", Pack) ∷ (codes "layout", Layout) ∷ (codes "read", Read) ∷ []
+commands =
+    (codes "pack", Pack) ∷ (codes "layout", Layout) ∷ (codes "read", Read) ∷ (codes "edit", Edit)
+    ∷ (codes "report", Report) ∷ []
 
 -- what the words ask for, where they are listed
 abbrev pub invocation_of : List (List ℕ) → Option Invocation

@@ -1,5 +1,6 @@
--- What status 0 says: of `pack`, that an image with the written layout was written, which shows the job's value and no other; of
--- `layout`, that the written layout was; of `read`, that the one value was that the bytes show.
+-- What status 0 says: of `pack`, that an image with the written layout was written, which shows the value that the edits leave and no other; of
+-- `layout`, that the written layout was; of `read`, that the one value was that the bytes show; of `edit`, that the edited bytes were;
+-- of `report`, that the identifier and the report were.
 use Rattle.std.specs.Prelude.{◌≡◌, ◌≢◌, ◌↔◌, ℕ, ◌+◌, ◌*◌, ◌<◌, List, [], Bool, true, false, Option, Some, None, length}
 use Rattle.std.specs.List.{list_any}
 use Rattle.std.specs.Io.KnownBytes.{Appends}
@@ -23,14 +24,16 @@ use Rattle.abi_layout.specs.Sums.{written_sums}
 use Rattle.abi_layout.specs.Trees as trees
 use Rattle.abi_layout.specs.Trees.{Tree, Branches}
 use Rattle.abi_pack.specs.ByteMap.{ByteMap as Bytes, AreBytes, bytes_of}
-use Rattle.abi_pack.specs.Jobs.{job_fault}
+use Rattle.abi_pack.specs.EditLists.{PlainEdit, edits_left, AreEdited}
+use Rattle.abi_pack.specs.Jobs.{job_fault, edits_fault}
 use Rattle.abi_pack.specs.Laws.{bit_of}
 use Rattle.abi_pack.specs.Plain.{Plain}
 use Rattle.abi_pack.specs.Values.{Shows, IsCanonical}
 use Rattle.abi_pack.specs.declared.image.Image.{Image}
-use Rattle.abi_document.specs.Documents.{pack, layout, read, job_of}
-use Rattle.abi_document.specs.declared.command.Command.TheVariants.{Pack, Layout, Read}
-use Rattle.abi_tool.specs.Lines.{image_text, layout_text, value_line}
+use Rattle.abi_document.specs.Documents.{pack, layout, read, edit, report, job_of}
+use Rattle.abi_document.specs.declared.command.Command.TheVariants.{Pack, Layout, Read, Edit, Report}
+use Rattle.abi_tool.specs.Lines.{image_text, layout_text, value_line, bytes_line}
+use Rattle.abi_tool.specs.Outcomes.{report_lines}
 use Rattle.abi_tool.specs.Reading.{reading}
 
 -- the two images are equal in each bit below the size that is not free
@@ -79,16 +82,20 @@ abbrev mutual
 -- ---- the commands
 
 -- the document was a job without a fault, and what the sink got is the text of an image: of the written layout and sums, as long
--- as the layout says, canonical for the job's value, and with each image that differs in free bits alone it shows this value only
+-- as the layout says, canonical for the value that the edits leave, and with each image that differs in free bits alone it shows this
+-- value only
 pub record Packs (bytes : List ℕ) (old new : Option (List ℕ)) : Type 0 where
   pub tree : Data
   pub target : Target
   pub desc : Tree
+  pub given : Plain
+  pub edits : List PlainEdit
   pub value : Plain
   pub image : Image
   pub is_read : reading bytes ≡ Some tree
-  pub is_job : job_of Pack tree ≡ Some (record { target = target; task = pack desc value })
-  pub no_fault : job_fault One target desc value ≡ None
+  pub is_job : job_of Pack tree ≡ Some (record { target = target; task = pack desc given edits })
+  pub no_fault : job_fault One target desc given edits ≡ None
+  pub is_left : value ≡ edits_left One target desc given edits
   pub wrote : Appends old new (image_text image)
   pub is_layout : image.layout ≡ written_frame One target desc
   pub are_sums : image.placed ≡ written_sums One target 0 desc
@@ -123,3 +130,32 @@ pub record Reads (bytes : List ℕ) (old new : Option (List ℕ)) : Type 0 where
   pub fills : length given ≡ (written_frame One target desc).size
   pub shows : ShowsOnly target desc value (bytes_of given)
   pub wrote : Appends old new (value_line value)
+
+-- the document was a description without a fault, with as many bytes as it has; they show one value and no other, none of its edits
+-- has a fault, and what the sink got is the line of the bytes that come of those handed in by one edit after the other
+pub record Edits (bytes : List ℕ) (old new : Option (List ℕ)) : Type 0 where
+  pub tree : Data
+  pub target : Target
+  pub desc : Tree
+  pub given : List ℕ
+  pub edits : List PlainEdit
+  pub value : Plain
+  pub edited : List ℕ
+  pub is_read : reading bytes ≡ Some tree
+  pub is_job : job_of Edit tree ≡ Some (record { target = target; task = edit desc given edits })
+  pub no_fault : desc_fault One target desc ≡ None
+  pub fills : length given ≡ (written_frame One target desc).size
+  pub shows : ShowsOnly target desc value (bytes_of given)
+  pub no_edit_fault : edits_fault One target desc value 0 edits ≡ None
+  pub are_edited : AreEdited One target desc value edits given edited
+  pub wrote : Appends old new (bytes_line edited)
+
+-- the document was a description without a fault, and what the sink got are the lines of its identifier and its report
+pub record Reports (bytes : List ℕ) (old new : Option (List ℕ)) : Type 0 where
+  pub tree : Data
+  pub target : Target
+  pub desc : Tree
+  pub is_read : reading bytes ≡ Some tree
+  pub is_job : job_of Report tree ≡ Some (record { target = target; task = report desc })
+  pub no_fault : desc_fault One target desc ≡ None
+  pub wrote : Appends old new (report_lines target desc)

@@ -3,7 +3,10 @@ use Rattle.std.specs.Prelude.{◌≡◌, ℕ, ◌^◌, List, [], ◌∷◌, ◌+
 use Rattle.std.specs.declared.cmp.Ordering.{Ordering}
 use Rattle.std.specs.declared.cmp.Ordering.TheVariants as ordering
 use Rattle.std.specs.declared.alloc.Global.{Global}
+use Rattle.std.specs.Int.{w64, to_be_bytes}
 use Rattle.hex.specs.Hex.{encode_lower}
+use Rattle.abi_report.specs.Reports.{ReportTree}
+use Rattle.abi_report.specs.Texts.{text}
 use Rattle.abi_bits.specs.Pairs.{Pair}
 use Rattle.abi_bits.specs.Forbidden.{Item, pattern, range}
 use Rattle.abi_bits.specs.declared.saturating_add_value.SaturatingAddValue.{SaturatingAddValue}
@@ -207,6 +210,19 @@ abbrev mutual
 unfoldable pub value_line : Plain → List ℕ
 value_line v = codes "value " ++ value_text v ++ codes "\n"
 
+-- ---- a report
+
+-- sixteen digits, the greatest first
+unfoldable pub id_line : ℕ → List ℕ
+id_line id = codes "id " ++ encode_lower (to_be_bytes w64 id) ++ codes "\n"
+
+unfoldable pub report_line : ReportTree → List ℕ
+report_line r = codes "report " ++ text r ++ codes "\n"
+
+-- a report with its identifier
+unfoldable pub report_text : ℕ → ReportTree → List ℕ
+report_text id r = id_line id ++ report_line r
+
 -- ---- refusals of a job
 
 unfoldable pub fault_text : Fault → List ℕ
@@ -219,6 +235,9 @@ fault_text (fault.TooLarge part) = codes "TooLarge part " ++ decimal part
 fault_text fault.WrongValue = codes "WrongValue"
 fault_text fault.WrongLength = codes "WrongLength"
 fault_text fault.IllegalBytes = codes "IllegalBytes"
+fault_text (fault.NoSuchPath edit) = codes "NoSuchPath edit " ++ decimal edit
+fault_text (fault.WrongVariant edit) = codes "WrongVariant edit " ++ decimal edit
+fault_text (fault.WrongPart edit) = codes "WrongPart edit " ++ decimal edit
 
 unfoldable pub refused_line : Fault → List ℕ
 refused_line f = codes "refused: " ++ fault_text f ++ codes "\n"

@@ -7,15 +7,18 @@ use Rattle.abi_layout.specs.Frames.{written_frame}
 use Rattle.abi_layout.specs.Sums.{written_sums}
 use Rattle.abi_layout.specs.Trees.{Tree}
 use Rattle.abi_layout.specs.declared.desc_error.DescError.{DescError}
-use Rattle.abi_pack.specs.Jobs.{of_description, job_fault, image_of}
+use Rattle.abi_layout.specs.ReportsOf.{report_tree}
+use Rattle.abi_report.specs.Identifier.{identifier}
+use Rattle.abi_pack.specs.EditLists.{PlainEdit, edits_left, edited_bytes}
+use Rattle.abi_pack.specs.Jobs.{of_description, job_fault, edits_fault, image_of}
 use Rattle.abi_pack.specs.Plain.{Plain}
 use Rattle.abi_pack.specs.Reading.{value_read}
 use Rattle.abi_pack.specs.declared.abi_error.AbiError.{AbiError}
 use Rattle.abi_pack.specs.declared.abi_error.AbiError.TheVariants as found
 use Rattle.abi_pack.specs.declared.plan.ReadError.{ReadError}
 use Rattle.abi_pack.specs.declared.plan.ReadError.TheVariants as unread
-use Rattle.abi_document.specs.Documents.{Task, pack, layout, read, PlainJob}
-use Rattle.abi_tool.specs.Lines.{image_text, layout_text, value_line}
+use Rattle.abi_document.specs.Documents.{Task, pack, layout, read, edit, report, PlainJob}
+use Rattle.abi_tool.specs.Lines.{image_text, layout_text, value_line, bytes_line, report_text}
 use Rattle.abi_tool.specs.declared.fault.Fault.{Fault}
 use Rattle.abi_tool.specs.declared.fault.Fault.TheVariants as fault
 use Rattle.abi_tool.specs.declared.job_error.JobError.{JobError}
@@ -41,6 +44,9 @@ of_packing (found.NotStable part) = why.Fault (fault.NotStable part)
 of_packing (found.TooLarge part) = why.Fault (fault.TooLarge part)
 of_packing found.OutOfMemory = why.OutOfMemory
 of_packing found.WrongValue = why.Fault fault.WrongValue
+of_packing (found.NoSuchPath number) = why.Fault (fault.NoSuchPath number)
+of_packing (found.WrongVariant number) = why.Fault (fault.WrongVariant number)
+of_packing (found.WrongPart number) = why.Fault (fault.WrongPart number)
 
 abbrev pub of_describing : DescError → JobError
 of_describing error = of_packing (of_description error)
@@ -57,13 +63,16 @@ fault_of why.OutOfMemory = None
 
 -- ---- the commands
 
--- the first fault of the description and its value
-abbrev pub pack_fault : Target → Tree → Plain → Option Fault
-pack_fault target t v = option_and_then (λ error. fault_of (of_packing error)) (job_fault One target t v)
+abbrev pub packing_fault : Option AbiError → Option Fault
+packing_fault found = option_and_then (λ error. fault_of (of_packing error)) found
 
--- the lines of the value's image
-abbrev pub pack_outcome : Target → Tree → Plain → Outcome
-pack_outcome target t v = unless (pack_fault target t v) (Ok (image_text (image_of One target t v)))
+-- the first fault of the description, its value and its edits
+abbrev pub pack_fault : Target → Tree → Plain → List PlainEdit → Option Fault
+pack_fault target t v es = packing_fault (job_fault One target t v es)
+
+-- the lines of the image of the value that the edits leave
+abbrev pub pack_outcome : Target → Tree → Plain → List PlainEdit → Outcome
+pack_outcome target t v es = unless (pack_fault target t v es) (Ok (image_text (image_of One target t (edits_left One target t v es))))
 
 -- the first fault of the description
 abbrev pub description_fault : Target → Tree → Option Fault
@@ -74,23 +83,44 @@ abbrev pub layout_outcome : Target → Tree → Outcome
 layout_outcome target t =
     unless (description_fault target t) (Ok (layout_text (written_frame One target t) (written_sums One target 0 t)))
 
--- the line of the value that bytes show, if they show one
-abbrev pub value_outcome : Option Plain → Outcome
-value_outcome None = Err fault.IllegalBytes
-value_outcome (Some v) = Ok (value_line v)
+-- what comes of the value that bytes show, if they show one
+abbrev pub value_outcome : (Plain → Outcome) → Option Plain → Outcome
+value_outcome next None = Err fault.IllegalBytes
+value_outcome next (Some v) = next v
 
--- the line of the value that the bytes show, where they are as many as the description has
-abbrev pub shown_outcome : Target → Tree → List ℕ → Outcome
-shown_outcome target t bs =
-    if length bs == (written_frame One target t).size then value_outcome (value_read One target t bs) else Err fault.WrongLength
+-- what comes of the value that the bytes show, where they are as many as the description has
+abbrev pub shown_outcome : (Plain → Outcome) → Target → Tree → List ℕ → Outcome
+shown_outcome next target t bs =
+    if length bs == (written_frame One target t).size then value_outcome next (value_read One target t bs) else Err fault.WrongLength
 
+-- unless the description has a fault
+abbrev pub bytes_outcome : (Plain → Outcome) → Target → Tree → List ℕ → Outcome
+bytes_outcome next target t bs = unless (description_fault target t) (shown_outcome next target t bs)
+
+-- the line of the value
 abbrev pub read_outcome : Target → Tree → List ℕ → Outcome
-read_outcome target t bs = unless (description_fault target t) (shown_outcome target t bs)
+read_outcome target t bs = bytes_outcome (λ v. Ok (value_line v)) target t bs
+
+-- the line of the bytes that edits leave, unless one has a fault
+abbrev pub edited_outcome : Target → Tree → List ℕ → List PlainEdit → Plain → Outcome
+edited_outcome target t bs es v = unless (packing_fault (edits_fault One target t v 0 es)) (Ok (bytes_line (edited_bytes One target t es bs)))
+
+abbrev pub edit_outcome : Target → Tree → List ℕ → List PlainEdit → Outcome
+edit_outcome target t bs es = bytes_outcome (edited_outcome target t bs es) target t bs
+
+-- the lines of the description's identifier and its report
+abbrev pub report_lines : Target → Tree → List ℕ
+report_lines target t = report_text (identifier target (report_tree One target t)) (report_tree One target t)
+
+abbrev pub report_outcome : Target → Tree → Outcome
+report_outcome target t = unless (description_fault target t) (Ok (report_lines target t))
 
 abbrev pub task_outcome : Target → Task → Outcome
-task_outcome target (pack t v) = pack_outcome target t v
+task_outcome target (pack t v es) = pack_outcome target t v es
 task_outcome target (layout t) = layout_outcome target t
 task_outcome target (read t bs) = read_outcome target t bs
+task_outcome target (edit t bs es) = edit_outcome target t bs es
+task_outcome target (report t) = report_outcome target t
 
 abbrev pub outcome_of : PlainJob → Outcome
 outcome_of job = task_outcome job.target job.task

@@ -30,6 +30,8 @@ fn command_named(name: &str) -> Option<Command>
         "pack" => Some(Command::Pack),
         "layout" => Some(Command::Layout),
         "read" => Some(Command::Read),
+        "edit" => Some(Command::Edit),
+        "report" => Some(Command::Report),
         _ => None,
     }
 }

@@ -1,6 +1,7 @@
 use std::fmt;
 
-/// What is wrong with a job: the first fault of its description, else that of its value or of its bytes.
+/// What is wrong with a job: the first fault of its description, else that of its value or of its bytes, else that of
+/// its edits.
 #[derive(Debug, Clone, Copy, PartialEq, Eq)]
 pub enum Fault {
     /// The target is not a supported one.
@@ -33,6 +34,21 @@ pub enum Fault {
     WrongLength,
     /// There are as many, and they show no value.
     IllegalBytes,
+    /// The first step of the edit's path that fails names no part of the description.
+    NoSuchPath {
+        /// The edit's number, from 0.
+        edit: u32,
+    },
+    /// The first step of the edit's path that fails enters a variant in which the value is not.
+    WrongVariant {
+        /// The edit's number, from 0.
+        edit: u32,
+    },
+    /// What the edit is to put there is none of the part's values.
+    WrongPart {
+        /// The edit's number, from 0.
+        edit: u32,
+    },
 }
 
 impl fmt::Display for Fault {
@@ -53,6 +69,9 @@ impl fmt::Display for Fault {
             Fault::WrongValue => write!(f, "WrongValue"),
             Fault::WrongLength => write!(f, "WrongLength"),
             Fault::IllegalBytes => write!(f, "IllegalBytes"),
+            Fault::NoSuchPath { edit } => write!(f, "NoSuchPath edit {edit}"),
+            Fault::WrongVariant { edit } => write!(f, "WrongVariant edit {edit}"),
+            Fault::WrongPart { edit } => write!(f, "WrongPart edit {edit}"),
         }
     }
 }

@@ -39,6 +39,9 @@ impl From<AbiError> for JobError {
             AbiError::TooLarge { part } => JobError::Fault(Fault::TooLarge { part }),
             AbiError::OutOfMemory => JobError::OutOfMemory,
             AbiError::WrongValue => JobError::Fault(Fault::WrongValue),
+            AbiError::NoSuchPath { edit } => JobError::Fault(Fault::NoSuchPath { edit }),
+            AbiError::WrongVariant { edit } => JobError::Fault(Fault::WrongVariant { edit }),
+            AbiError::WrongPart { edit } => JobError::Fault(Fault::WrongPart { edit }),
         }
     }
 }

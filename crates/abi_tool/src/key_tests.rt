@@ -24,7 +24,7 @@ struct Form {
     members: &'static [Member],
 }
 
-static FORMS: [Form; 7] = [
+static FORMS: [Form; 12] = [
     Form {
         word: "layout",
         before: r#""#,
@@ -94,6 +94,87 @@ static FORMS: [Form; 7] = [
                 ],
             },
         ],
+    },
+    Form {
+        word: "edit",
+        before: "",
+        after: "",
+        members: &[
+            Member {
+                key: "target",
+                good: r#""le64""#,
+                bad: &["null"],
+            },
+            Member {
+                key: "desc",
+                good: r#""u8""#,
+                bad: &["null"],
+            },
+            Member {
+                key: "bytes",
+                good: r#""05""#,
+                bad: &[r#""5""#, "5", r#"{"bytes":"05"}"#],
+            },
+            Member {
+                key: "edits",
+                good: "[]",
+                bad: &["{}", "null", "[[]]", "[{}]", r#"{"path":[],"value":1}"#],
+            },
+        ],
+    },
+    Form {
+        word: "report",
+        before: "",
+        after: "",
+        members: &[
+            Member {
+                key: "target",
+                good: r#""le64""#,
+                bad: &["null"],
+            },
+            Member {
+                key: "desc",
+                good: r#""u8""#,
+                bad: &["null"],
+            },
+        ],
+    },
+    Form {
+        word: "pack",
+        before: r#"{"target":"le64","desc":"u8","value":5,"edits":["#,
+        after: "]}",
+        members: &[
+            Member {
+                key: "path",
+                good: "[]",
+                bad: &["{}", "null", r#""ok""#, "[null]", r#"["none"]"#, "[0]"],
+            },
+            Member {
+                key: "value",
+                good: "6",
+                bad: &["1.5", "{}"],
+            },
+        ],
+    },
+    Form {
+        word: "pack",
+        before: r#"{"target":"le64","desc":{"array":["u8",1]},"value":[5],"edits":[{"value":6,"path":["#,
+        after: "]}]}",
+        members: &[Member {
+            key: "item",
+            good: "0",
+            bad: &["-1", "0.0", r#""0""#, "4294967296", "null"],
+        }],
+    },
+    Form {
+        word: "edit",
+        before: r#"{"target":"le64","desc":{"struct":{"name":"S","module":"m","fields":[["f","u8"]]}},"bytes":"05","edits":[{"value":6,"path":["#,
+        after: "]}]}",
+        members: &[Member {
+            key: "field",
+            good: "0",
+            bad: &["-1", "0.0", r#""0""#, "4294967296", "null"],
+        }],
     },
     Form {
         word: "layout",

@@ -3,6 +3,8 @@
 
 mod answer;
 mod command;
+#[cfg(test)]
+mod edit_tests;
 mod failed;
 mod fault;
 #[cfg(test)]
@@ -30,6 +32,9 @@ mod reading;
 #[cfg(test)]
 mod refused_tests;
 mod reply;
+#[cfg(test)]
+mod report_tests;
+mod report_text;
 mod run_document;
 mod sink;
 mod source;

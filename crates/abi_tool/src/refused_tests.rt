@@ -38,7 +38,7 @@ static NO_DOCUMENTS: [&str; 16] = [
     r#""pack""#,
     r#"{"a":1,"a":2}"#,
     r#"["le64","bool",true]"#,
-    r#"{"target":"le64","desc":"bool","value":true,"edits":[]}"#,
+    r#"{"target":"le64","desc":"bool","value":true,"edit":[]}"#,
     r#"{"target":"le64","desc":"bool","value":true,"version":1}"#,
     r#"{"target":"le64","desc":"bool","value":true,"Value":true}"#,
     r#"{"target":"le64","desc":"bool","value":true,"bytes":"00"}"#,

@@ -1,6 +1,6 @@
 ghost use Rattle.std.specs.Prelude.{◌≡◌, IfOk};
 ghost use Rattle.serde_json.specs.View.{view};
-ghost use Rattle.abi_document.specs.Documents.{HasNoEdits, plain_job};
+ghost use Rattle.abi_document.specs.Documents.{HasFewEdits, plain_job};
 ghost use Rattle.abi_tool.specs.Outcomes.{outcome_of};
 ghost use Rattle.abi_tool.specs.Reply.{reply_by, reply_to_tree};
 
@@ -29,7 +29,7 @@ pub fn reply_to_tree(alloc: Global, command: Command, tree: &Value) -> Result<Re
 
 // The reply to a job of any command.
 fn reply_to_job(alloc: Global, job: &Job) -> Result<Reply, OutOfMemory>
-    requires { HasNoEdits job.now.work }
+    requires { HasFewEdits job.now.work }
     ensures { IfOk result (λ reply. reply ≡ reply_by (outcome_of (plain_job job.now))) }
 {
     match outcome_of(alloc, job) {

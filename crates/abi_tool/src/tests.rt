@@ -163,10 +163,10 @@ fn unlisted_words_do_nothing(rt: HostRuntime) -> Result<(), Fail> {
         &["Pack"],
         &["pack "],
         &["pack", "pack"],
-        &["layout", "read"],
+        &["edit", "report"],
         &["read", ""],
         &["Layout"],
-        &["edit"],
+        &["edits"],
     ];
     for words in lists {
         let mut source = MemSource::new(b"{}", &[0]);

@@ -37,6 +37,15 @@ pub fn layout_text(alloc: Global, layout: &Layout, sums: &[Placed]) -> Result<Te
     Ok(Text::from(out))
 }
 
+/// The line of bytes.
+pub fn bytes_text(alloc: Global, bytes: &[u8]) -> Result<Text, OutOfMemory>
+    ensures { IfOk result (λ text. text ≡ bytes_line bytes.now) }
+{
+    let mut out = String::new(alloc);
+    push_bytes(alloc, &mut out, bytes)?;
+    Ok(Text::from(out))
+}
+
 /// The line of a job that has a fault.
 #[tactic(auto, unfolding(crate::specs::Lines::refused_line))]
 pub fn refused(alloc: Global, fault: Fault) -> Result<Text, OutOfMemory>

@@ -1,5 +1,5 @@
 ghost use Rattle.std.specs.Prelude.{◌≡◌, ◌≢◌, ◌↔◌, ◌⊎◌, [], ◌∷◌, Some, None, IfSome, codes};
-ghost use Rattle.abi_tool.specs.Headline.{Packs, LaysOut, Reads};
+ghost use Rattle.abi_tool.specs.Headline.{Packs, LaysOut, Reads, Edits, Reports};
 ghost use Rattle.std.specs.Io.KnownBytes.{Keeps};
 ghost use Rattle.abi_tool.specs.Answers.{invocation_of, reply_to, status_of, Answers, StatusMeans, rest_after, IsSilent};
 ghost use Rattle.abi_tool.specs.Causes.{Rose};
@@ -28,7 +28,8 @@ pub fn tool<S: Source, K: Sink>(alloc: Global, words: &[Text], source: &mut S, s
     ensures rest { IfSome (S.left source.old) (λ bytes.
         result ≢ 2 → result ≢ 8 → S.left source.new ≡ Some (rest_after (invocation_of words.now) result bytes)) }
 
-    // Status 0 of `pack`: the document was a job without a fault, and an image that shows its value and no other was written.
+    // Status 0 of `pack`: the document was a job without a fault, and an image was written that shows the value which
+    // its edits leave, and no other.
     ensures packs { words.now ≡ codes "pack" ∷ [] → IfSome (S.left source.old) (λ bytes.
         result ≡ 0 → Packs bytes (K.got sink.old) (K.got sink.new)) }
 
@@ -39,6 +40,14 @@ pub fn tool<S: Source, K: Sink>(alloc: Global, words: &[Text], source: &mut S, s
     // Of `read`: it was a description without a fault, and the one value that the bytes show was written.
     ensures reads { words.now ≡ codes "read" ∷ [] → IfSome (S.left source.old) (λ bytes.
         result ≡ 0 → Reads bytes (K.got sink.old) (K.got sink.new)) }
+
+    // Of `edit`: each edit of a value that the bytes show was done in these bytes, and what that leaves was written.
+    ensures edits { words.now ≡ codes "edit" ∷ [] → IfSome (S.left source.old) (λ bytes.
+        result ≡ 0 → Edits bytes (K.got sink.old) (K.got sink.new)) }
+
+    // Of `report`: it was a description without a fault, and its identifier and its report were written.
+    ensures reports { words.now ≡ codes "report" ∷ [] → IfSome (S.left source.old) (λ bytes.
+        result ≡ 0 → Reports bytes (K.got sink.old) (K.got sink.new)) }
 
     // With no fault the status is that of the reply, unless memory was refused.
     ensures complete { IfSome (S.left source.old) (λ bytes.

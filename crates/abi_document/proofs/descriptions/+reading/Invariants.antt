@@ -13,11 +13,11 @@ decreases-desc_step l = 8 * l.levels + 7
 abbrev pub decreases-form_of : goal.decreases-form_of
 decreases-form_of l = 8 * l.levels + 6
 
-abbrev pub decreases-one_sided : goal.decreases-one_sided
-decreases-one_sided l = 8 * l.levels + 5
+abbrev pub decreases-one_sided_of : goal.decreases-one_sided_of
+decreases-one_sided_of l = 8 * l.levels + 5
 
-abbrev pub decreases-pointer : goal.decreases-pointer
-decreases-pointer l = 8 * l.levels + 4
+abbrev pub decreases-pointer_of : goal.decreases-pointer_of
+decreases-pointer_of l = 8 * l.levels + 4
 
 abbrev pub decreases-struct_of : goal.decreases-struct_of
 decreases-struct_of l = 8 * l.levels + 3
@@ -34,8 +34,8 @@ decreases-pair_at l = 8 * l.levels + 2
 abbrev pub decreases-wrap_of : goal.decreases-wrap_of
 decreases-wrap_of l = 8 * l.levels + 2
 
-abbrev pub decreases-pointer_of : goal.decreases-pointer_of
-decreases-pointer_of l = 8 * l.levels + 2
+abbrev pub decreases-pointer_to : goal.decreases-pointer_to
+decreases-pointer_to l = 8 * l.levels + 2
 
 abbrev pub decreases-field_of : goal.decreases-field_of
 decreases-field_of l = 8 * l.levels + 1

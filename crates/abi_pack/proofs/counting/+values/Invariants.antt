@@ -1,4 +1,4 @@
-use Rattle.std.proofs.Common.{◌≡◌, ◌+◌, ◌-◌, ◌≤◌, length, slice_index}
+use Rattle.std.proofs.Common.{◌≡◌, ◌+◌, ◌-◌, ◌≤◌, min, length, slice_index}
 use Rattle.abi_layout.specs.Shape.{size_in, repeated}
 use Rattle.abi_pack.specs.ByteMap.{seen_from}
 use Rattle.abi_pack.specs.Counting.{max_values, values_in_all}
@@ -19,7 +19,7 @@ decreases-values_of_each l = nodes_in (repeated l.len (shape l.item.now))
 abbrev pub invariant-values_of_each-loop-i : goal.invariant-values_of_each-loop-i
 invariant-values_of_each-loop-i l = record {
   within : l.start + size_in (repeated (l.len - l.i) (shape l.item)) ≤ length l.bytes;
-  low : l.count ≤ max_values;
-  whole : l.count + values_in_all (values_shown (repeated (l.len - l.i) (shape l.item)) (seen_from l.start (slice_index l.bytes)))
-      ≡ values_in_all (values_shown (repeated l.len (shape l.item)) (seen_from l.at (slice_index l.bytes)));
+  low : l.count ≤ max_values + 1;
+  whole : min (l.count + values_in_all (values_shown (repeated (l.len - l.i) (shape l.item)) (seen_from l.start (slice_index l.bytes)))) (max_values + 1)
+      ≡ min (l.before + values_in_all (values_shown (repeated l.len (shape l.item)) (seen_from l.at (slice_index l.bytes)))) (max_values + 1);
 }
