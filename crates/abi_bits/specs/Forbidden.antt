@@ -1,8 +1,8 @@
 -- Forbidden values as a list of items from left to right, and what the leftmost leaf offers.
-use Rattle.std.specs.Prelude.{ℕ, ◌+◌, List, [], ◌∷◌, ◌++◌, Bool, true, false, ◌&&◌, nat_le, nat_lt, ◌==◌, Option, Some, None, IsTrue, map}
-use Rattle.std.specs.List.{list_all}
+use Rattle.std.specs.Prelude.{◌≡◌, ℕ, ◌+◌, List, [], ◌∷◌, ◌++◌, Bool, true, false, ◌&&◌, nat_le, nat_lt, ◌==◌, Option, Some, None, IsTrue, map, if◌then◌else◌}
+use Rattle.std.specs.List.{list_all, find}
 use Rattle.abi_bits.specs.Pairs.{Pair, is_matched, moved_pairs, are_below, max_size}
-use Rattle.abi_bits.specs.Mask.{mask_at}
+use Rattle.abi_bits.specs.Mask.{mask_at, lies_free}
 use Rattle.abi_bits.specs.declared.forbidden_values.ForbiddenValues.{ForbiddenValues, fold-ForbiddenValues}
 use Rattle.abi_bits.specs.declared.forbidden_values.ForbiddenValues.TheOpen.{ForbiddenValues-F}
 use Rattle.abi_bits.specs.declared.single_forbidden_value.SingleForbiddenValue.{SingleForbiddenValue}
@@ -53,7 +53,8 @@ is_solid_byte size free at = nat_lt at size && mask_at free at == 0
 -- a range that rises, or a pattern, in bytes below the size without a free bit
 abbrev pub is_solid_item : ℕ → List Pair → Item → Bool
 is_solid_item size free (pattern ps) = list_all (λ p. is_solid_byte size free p.0) ps
-is_solid_item size free (range at least greatest) = is_solid_byte size free at && nat_lt least greatest
+is_solid_item size free (range at least greatest) =
+    is_solid_byte size free at && nat_lt least greatest
 
 abbrev pub items_step : ForbiddenValues-F (List Item) → List Item
 items_step ForbiddenValues-F.End = []
@@ -114,3 +115,21 @@ last_step (ForbiddenValues-F.Or left right) = right.value
 -- the very rightmost leaf is a pattern
 abbrev pub ends_in_pattern : ForbiddenValues → Bool
 ends_in_pattern = fold-ForbiddenValues Bool last_step
+
+-- the first pattern that the values offer in bytes that are wholly in the set
+abbrev pub first_lying : List Pair → ForbiddenValues → Option (List Pair)
+first_lying free v = find (lies_free free) (offered (items v))
+
+-- the items of two values joined: a range stands before what it is joined with, all else after it
+abbrev pub joined_items : ForbiddenValues → ForbiddenValues → List Item
+joined_items v w = if is_one_range v then items v ++ items w else items w ++ items v
+
+-- the head of two values joined
+abbrev pub joined_head : ForbiddenValues → ForbiddenValues → Option (List Pair)
+joined_head v w = if is_one_range v then head v else head w
+
+-- where the first of two forbids something, what is joined of them ends as the one that stands last
+abbrev pub IsEndOf : ForbiddenValues → ForbiddenValues → ForbiddenValues → Type 0
+IsEndOf v w both =
+    is_nothing v ≡ false
+    → ends_in_pattern both ≡ (if is_one_range v then ends_in_pattern w else ends_in_pattern v)

@@ -1,11 +1,23 @@
 -- Bytes that stand in a row from an offset on.
-use Rattle.std.specs.Prelude.{ℕ, ◌+◌, ◌-◌, ◌<◌, ◌≤◌, List, [], ◌∷◌, Option, Some, None, nat_le, length, slice_index, if◌then◌else◌}
+use Rattle.std.specs.Prelude.{◌≡◌, ℕ, bit_or, ◌+◌, ◌-◌, ◌<◌, ◌≤◌, List, [], ◌∷◌, Option, Some, None, nat_le, length, slice_index, if◌then◌else◌}
 use Rattle.abi_bits.specs.Pairs.{Pair, max_size}
 use Rattle.abi_bits.specs.Mask.{IsMask, entries_below}
 
 -- the byte at an offset, among bytes of which the first stands at `start`; 0 where none stands
 abbrev pub byte_in : ℕ → List ℕ → ℕ → ℕ
 byte_in start bytes at = if nat_le start at then slice_index bytes (at - start) else 0
+
+-- the byte at an index of a row, with the bits of another row that begins at the index `from` of it
+abbrev pub row_with : ℕ → List ℕ → List ℕ → ℕ → ℕ
+row_with from other bytes at = bit_or (slice_index bytes at) (byte_in from other at)
+
+-- the row has at each index the byte that `byte` tells
+abbrev pub Tells : (ℕ → ℕ) → List ℕ → Type 0
+Tells byte bytes = (at : ℕ) → slice_index bytes at ≡ byte at
+
+-- the two tell the same bytes from `from` on
+abbrev pub AgreeFrom : ℕ → (ℕ → ℕ) → (ℕ → ℕ) → Type 0
+AgreeFrom from f g = (at : ℕ) → from ≤ at → f at ≡ g at
 
 -- the set that these bytes tell
 abbrev pub entries_in : ℕ → List ℕ → List Pair

@@ -4,7 +4,7 @@ ghost use Rattle.std.specs.List.{find};
 ghost use Rattle.std.specs.Option.{option_map};
 ghost use Rattle.abi_bits.specs.Pairs.{are_below, are_rising, is_empty, moved_pairs};
 ghost use Rattle.abi_bits.specs.Span.{IsSpan, byte_in};
-ghost use Rattle.abi_bits.specs.Mask.{is_mask, IsMask, mask_at, Has, have_bits, IsNext, byte_moved, HasMoved, full_between, lies_free, lowest, least_bit, bit_byte, IsLeast};
+ghost use Rattle.abi_bits.specs.Mask.{is_mask, IsMask, mask_at, Has, have_bits, IsNext, HasBytes, HasBits, HasEither, byte_or, byte_or_moved, byte_within, byte_after_least, HasMoved, byte_moved, AreFirstBytes, entry, full_between, lies_free, lowest, least_bit, bit_byte, IsLeast};
 
 use crate::MAX_SIZE;
 use crate::pairs::are_rising;
@@ -124,7 +124,7 @@ impl BitMask {
     /// The bits at each of the first `size` bytes, one byte each.
     pub fn bytes(&self, alloc: Global, size: u64) -> Result<Items<u8>, OutOfMemory>
         ensures length { IfOk result (λ bytes. length bytes ≡ size) }
-        ensures same { IfOk result (λ bytes. (at : ℕ) → at < size → slice_index bytes at ≡ mask_at self.now at) }
+        ensures same { IfOk result (AreFirstBytes self.now) }
     {
         let mut bytes = Items::new(alloc);
         for at in 0..size {
@@ -138,7 +138,7 @@ impl BitMask {
         requires above { IsTrue (are_below at self.old) }
         requires within { at < MAX_SIZE }
         ensures valid { IsMask self.new }
-        ensures ok { OnOk result (self.new ≡ self.old ++ (if mask == 0 then [] else (at, mask) ∷ [])) }
+        ensures ok { OnOk result (self.new ≡ self.old ++ entry at mask) }
         ensures err { OnErr result (self.new ≡ self.old) }
     {
         let _ = &self.start;
@@ -153,8 +153,8 @@ impl BitMask {
     pub fn padding(alloc: Global, from: u64, count: u64) -> Result<BitMask, OutOfMemory>
         requires { from + count ≤ MAX_SIZE }
         ensures valid { IfOk result (λ mask. IsMask mask) }
-        ensures bytes { IfOk result (λ mask. (at : ℕ) → mask_at mask at ≡ full_between from (from + count) at) }
-        ensures bits { IfOk result (λ mask. (n : ℕ) → Has mask n ↔ ((8 * from ≤ n) × (n < 8 * (from + count)))) }
+        ensures bytes { IfOk result (HasBytes (full_between from (from + count))) }
+        ensures bits { IfOk result (HasBits (λ n. (8 * from ≤ n) × (n < 8 * (from + count)))) }
     {
         let bytes = vec![in alloc; 255; count as usize]?;
         Ok(BitMask { start: from, bytes })
@@ -163,8 +163,8 @@ impl BitMask {
     /// The bits of either set.
     pub fn bit_or(&self, alloc: Global, other: &BitMask) -> Result<BitMask, OutOfMemory>
         ensures valid { IfOk result (λ mask. IsMask mask) }
-        ensures bytes { IfOk result (λ mask. (at : ℕ) → mask_at mask at ≡ bit_or (mask_at self.now at) (mask_at other.now at)) }
-        ensures bits { IfOk result (λ mask. (n : ℕ) → Has mask n ↔ (Has self.now n ⊎ Has other.now n)) }
+        ensures bytes { IfOk result (HasBytes (byte_or (mask_at other.now) self.now)) }
+        ensures bits { IfOk result (HasBits (HasEither self.now (Has other.now))) }
     {
         let _ = &other.start;
         let mut mask = self.copy(alloc)?;
@@ -175,8 +175,8 @@ impl BitMask {
     /// The bits of both sets.
     pub fn bit_and(&self, alloc: Global, other: &BitMask) -> Result<BitMask, OutOfMemory>
         ensures valid { IfOk result (λ mask. IsMask mask) }
-        ensures bytes { IfOk result (λ mask. (at : ℕ) → mask_at mask at ≡ bit_and (mask_at self.now at) (mask_at other.now at)) }
-        ensures bits { IfOk result (λ mask. (n : ℕ) → Has mask n ↔ (Has self.now n × Has other.now n)) }
+        ensures bytes { IfOk result (HasBytes (byte_within other.now self.now)) }
+        ensures bits { IfOk result (HasBits (λ n. Has self.now n × Has other.now n)) }
     {
         let mut mask = BitMask::new(alloc);
         for at in self.start..self.start + self.bytes.len() as u64 {
@@ -190,8 +190,8 @@ impl BitMask {
         requires { IsTrue (are_below MAX_SIZE (moved_pairs by self.now)) }
         ensures same { IfOk result (λ mask. mask ≡ moved_pairs by self.now) }
         ensures valid { IfOk result (λ mask. IsMask mask) }
-        ensures bytes { IfOk result (λ mask. (at : ℕ) → mask_at mask at ≡ (if nat_le by at then mask_at self.now (at - by) else 0)) }
-        ensures bits { IfOk result (λ mask. (n : ℕ) → Has mask n ↔ ((8 * by ≤ n) × Has self.now (n - 8 * by))) }
+        ensures bytes { IfOk result (HasBytes (byte_moved by self.now)) }
+        ensures bits { IfOk result (HasBits (HasMoved by self.now)) }
     {
         let _ = &self.start;
         let mut mask = BitMask::new(alloc);
@@ -206,7 +206,7 @@ impl BitMask {
         requires within { IsTrue (are_below MAX_SIZE (moved_pairs by other.now)) }
         ensures same { IfOk result (λ mask. mask ≡ self ++ moved_pairs by other.now) }
         ensures valid { IfOk result (λ mask. IsMask mask) }
-        ensures bytes { IfOk result (λ mask. (at : ℕ) → mask_at mask at ≡ bit_or (mask_at self at) (if nat_le by at then mask_at other.now (at - by) else 0)) }
+        ensures bytes { IfOk result (HasBytes (byte_or_moved by other.now self)) }
     {
         let _ = &self.start;
         let _ = &other.start;
@@ -220,8 +220,8 @@ impl BitMask {
     pub fn or_shifted(&mut self, other: &BitMask, by: u64) -> Result<(), OutOfMemory>
         requires { IsTrue (are_below MAX_SIZE (moved_pairs by other.now)) }
         ensures valid { IsMask self.new }
-        ensures bytes { OnOk result ((at : ℕ) → mask_at self.new at ≡ bit_or (mask_at self.old at) (byte_moved by other.now at)) }
-        ensures bits { OnOk result ((n : ℕ) → Has self.new n ↔ (Has self.old n ⊎ HasMoved by other.now n)) }
+        ensures bytes { OnOk result (HasBytes (byte_or_moved by other.now self.old) self.new) }
+        ensures bits { OnOk result (HasBits (HasEither self.old (HasMoved by other.now)) self.new) }
         ensures err { OnErr result (self.new ≡ self.old) }
     {
         let _ = &self.start;
@@ -239,7 +239,7 @@ impl BitMask {
         requires some { 0 < length row.now }
         requires span { IsSpan from row.now }
         ensures valid { IsMask self.new }
-        ensures bytes { OnOk result ((at : ℕ) → mask_at self.new at ≡ bit_or (mask_at self.old at) (byte_in from row.now at)) }
+        ensures bytes { OnOk result (HasBytes (byte_or (byte_in from row.now) self.old) self.new) }
         ensures err { OnErr result (self.new ≡ self.old) }
     {
         let own = self.bytes.as_slice();
@@ -276,8 +276,8 @@ impl BitMask {
     /// The set without its least bit; the empty set stays empty.
     pub fn extract_bit(&self, alloc: Global) -> Result<BitMask, OutOfMemory>
         ensures valid { IfOk result (λ mask. IsMask mask) }
-        ensures bytes { IfOk result (λ mask. (at : ℕ) → mask_at mask at ≡ bit_xor (mask_at self.now at) (bit_byte (least_bit self.now) at)) }
-        ensures bits { IfOk result (λ mask. (n : ℕ) → Has mask n ↔ (Has self.now n × (IsLeast self.now n → ⊥))) }
+        ensures bytes { IfOk result (HasBytes (byte_after_least self.now)) }
+        ensures bits { IfOk result (HasBits (λ n. Has self.now n × (IsLeast self.now n → ⊥))) }
     {
         let least = self.least_bit();
         let mut rest = BitMask::new(alloc);

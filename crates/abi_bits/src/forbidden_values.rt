@@ -3,8 +3,8 @@ ghost use Rattle.std.specs.List.{list_all, list_any, find};
 ghost use Rattle.std.specs.Option.{option_map};
 ghost use Rattle.abi_bits.specs.Pairs.{is_pattern, are_bytes, are_below, is_matched, moved_pairs};
 ghost use Rattle.abi_bits.specs.Mask.{lies_free};
-ghost use Rattle.abi_bits.specs.Single.{answer};
-ghost use Rattle.abi_bits.specs.Forbidden.{items, head, single, offered, is_match, is_ranged, are_items_below, AreSound, is_solid_byte, is_solid_item, moved_item, is_nothing, is_one_range, ends_in_pattern};
+ghost use Rattle.abi_bits.specs.Single.{answer, selected};
+ghost use Rattle.abi_bits.specs.Forbidden.{items, head, single, offered, is_match, is_ranged, are_items_below, AreSound, is_solid_byte, is_solid_item, moved_item, is_nothing, is_one_range, ends_in_pattern, first_lying, joined_items, joined_head, IsEndOf};
 
 use crate::bit_mask::BitMask;
 use crate::pairs::are_below;
@@ -121,8 +121,8 @@ impl ForbiddenValues {
         mask: &BitMask,
     ) -> Result<SingleForbiddenValue, OutOfMemory>
         requires { AreSound (items self.now) }
-        ensures same { IfOk result (λ found. found ≡ answer (find (lies_free mask.now) (offered (items self.now))) (ends_in_pattern self.now)) }
-        ensures pattern { IfOk result (λ found. single found ≡ find (lies_free mask.now) (offered (items self.now))) }
+        ensures same { IfOk result (λ found. found ≡ selected mask.now self.now) }
+        ensures pattern { IfOk result (λ found. single found ≡ first_lying mask.now self.now) }
     {
         match self {
             ForbiddenValues::End => Ok(SingleForbiddenValue::End),
@@ -154,7 +154,7 @@ impl ForbiddenValues {
     pub fn shift(&self, alloc: Global, by: u64) -> Result<ForbiddenValues, OutOfMemory>
         requires { IsTrue (are_items_below MAX_SIZE (map (moved_item by) (items self.now))) }
         ensures items { IfOk result (λ moved. items moved ≡ map (moved_item by) (items self.now)) }
-        ensures head { IfOk result (λ moved. head moved ≡ option_map (moved_pairs by) (head self.now)) }
+        ensures head { IfOk result (λ m. head m ≡ option_map (moved_pairs by) (head self.now)) }
         ensures nothing { IfOk result (λ moved. is_nothing moved ≡ is_nothing self.now) }
         ensures range { IfOk result (λ moved. is_one_range moved ≡ is_one_range self.now) }
         ensures last { IfOk result (λ moved. ends_in_pattern moved ≡ ends_in_pattern self.now) }
@@ -232,9 +232,9 @@ impl ForbiddenValues {
     /// `other` before this. Both are dropped where memory is refused.
     pub fn or(self, alloc: Global, other: ForbiddenValues) -> Result<ForbiddenValues, OutOfMemory>
         ensures nothing { is_nothing self ≡ true → IfOk result (λ both. both ≡ other) }
-        ensures items { IfOk result (λ both. items both ≡ (if is_one_range self then items self ++ items other else items other ++ items self)) }
-        ensures head { IfOk result (λ both. head both ≡ (if is_one_range self then head self else head other)) }
-        ensures last { IfOk result (λ both. is_nothing self ≡ false → ends_in_pattern both ≡ (if is_one_range self then ends_in_pattern other else ends_in_pattern self)) }
+        ensures items { IfOk result (λ both. items both ≡ joined_items self other) }
+        ensures head { IfOk result (λ both. head both ≡ joined_head self other) }
+        ensures last { IfOk result (IsEndOf self other) }
     {
         match self {
             ForbiddenValues::End => Ok(other),

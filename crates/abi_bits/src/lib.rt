@@ -1,7 +1,8 @@
-//! Sets of free bits, byte patterns, forbidden values and niche counts.
+//! Sets of free bits, byte patterns, forbidden values, niche counts, and counts of steps.
 #![tactic(auto)]
 
 mod bit_mask;
+mod byte_mask;
 mod forbidden_values;
 pub mod laws;
 mod pairs;
@@ -9,17 +10,20 @@ mod pattern;
 mod saturating_add_value;
 mod single_forbidden_value;
 mod span;
+mod steps;
 #[cfg(test)]
 mod tests;
 mod walk;
 
 use abi_num::Items;
 pub use bit_mask::BitMask;
+pub use byte_mask::ByteMask;
 pub use forbidden_values::ForbiddenValues;
 pub use pairs::are_rising;
 pub use pattern::Pattern;
 pub use saturating_add_value::SaturatingAddValue;
 pub use single_forbidden_value::SingleForbiddenValue;
+pub use steps::Steps;
 pub use walk::Walk;
 
 /// The greatest size of anything laid out, in bytes; every offset lies below it.

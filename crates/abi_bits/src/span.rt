@@ -1,6 +1,6 @@
 //! Rows of bytes that stand from an offset on.
 ghost use Rattle.std.specs.Prelude.{◌≡◌, ◌≤◌, ◌<◌, ◌+◌, ◌-◌, ◌==◌, ◌++◌, ◌∷◌, [], ℕ, nat_le, bit_or, OnOk, OnErr, length, replicate, slice_index, if◌then◌else◌};
-ghost use Rattle.abi_bits.specs.Span.{byte_in, first_in, start_with};
+ghost use Rattle.abi_bits.specs.Span.{byte_in, row_with, Tells, first_in, start_with};
 
 use abi_num::OutOfMemory;
 
@@ -39,7 +39,7 @@ pub(crate) fn start_with(start: u64, bytes: &[u8], at: u64) -> u64
 pub(crate) fn widen(bytes: &mut Vec<u8>, front: usize, len: usize) -> Result<(), OutOfMemory>
     requires { front + length bytes.old.items ≤ len }
     ensures len { OnOk result (length bytes.new.items ≡ len) }
-    ensures ok { OnOk result ((k : ℕ) → slice_index bytes.new.items k ≡ (if nat_le front k then slice_index bytes.old.items (k - front) else 0)) }
+    ensures ok { OnOk result (Tells (byte_in front bytes.old.items) bytes.new.items) }
     ensures err { OnErr result (bytes.new.items ≡ bytes.old.items) }
 {
     bytes.resize(len, 0)?;
@@ -51,7 +51,7 @@ pub(crate) fn widen(bytes: &mut Vec<u8>, front: usize, len: usize) -> Result<(),
 pub(crate) fn or_bytes(bytes: &mut Vec<u8>, other: &[u8], from: usize)
     requires { from + length other.now ≤ length bytes.old.items }
     ensures len { length bytes.new.items ≡ length bytes.old.items }
-    ensures joined { (k : ℕ) → slice_index bytes.new.items k ≡ bit_or (slice_index bytes.old.items k) (if nat_le from k then slice_index other.now (k - from) else 0) }
+    ensures joined { Tells (row_with from other.now bytes.old.items) bytes.new.items }
 {
     for (index, byte) in other.iter().enumerate() {
         bytes[from + index] |= *byte;

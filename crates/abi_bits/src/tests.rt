@@ -1,13 +1,17 @@
-ghost use Rattle.std.specs.Prelude.{◌≡◌, ◌∷◌, [], IfOk};
+ghost use Rattle.std.specs.Prelude.{◌≡◌, ◌<◌, ◌+◌, ◌∷◌, [], IfOk};
 ghost use Rattle.abi_bits.specs.Forbidden.{items, pattern, range};
 
 use crate::bit_mask::BitMask;
+use crate::byte_mask::ByteMask;
 use crate::forbidden_values::ForbiddenValues;
 use crate::pairs::are_rising;
 use crate::pattern::Pattern;
 use crate::saturating_add_value::SaturatingAddValue;
 use crate::single_forbidden_value::SingleForbiddenValue;
+use crate::steps::Steps;
 use std::alloc::Global;
+use std::marker::Brand;
+use std::sync::ledger::{Blank, Ledger};
 use std::test::Fail;
 
 fn mask_of(alloc: Global, entries: &[(u64, u8)]) -> Result<BitMask, Fail>
@@ -62,6 +66,41 @@ fn masks_move(rt: HostRuntime) -> Result<(), Fail> {
     let alloc = rt.alloc();
     let mask = mask_of(alloc, &[(1, 255), (3, 1)])?;
     assert!(rt; has_entries(&mask.shift(alloc, 2)?, &[(3, 255), (5, 1)]));
+    Ok(())
+}
+
+#[test]
+fn a_mask_takes_in_another(rt: HostRuntime) -> Result<(), Fail> {
+    let alloc = rt.alloc();
+    let mut mask = mask_of(alloc, &[(0, 1)])?;
+    mask.or_shifted(&mask_of(alloc, &[(0, 2)])?, 3)?;
+    assert!(rt; has_entries(&mask, &[(0, 1), (3, 2)]));
+    Ok(())
+}
+
+/// The bits at offsets 3 and 9, for two steps.
+fn two_probes<L: Ledger>(mask: &ByteMask, steps: &mut Steps<L>) -> (u8, u8)
+    ensures { steps.new ≡ steps.old + 2 }
+{
+    let third = mask.probe(3, steps);
+    let ninth = mask.probe(9, steps);
+    (third, ninth)
+}
+
+fn probed<L: Ledger>(mask: &ByteMask, blank: Blank) -> (u8, u8)
+    requires name { blank.name ≡ L.name }
+    requires parts { blank.parts ≡ L.parts }
+    requires some { 0 < blank.parts }
+{
+    let mut steps = Steps::<L>::new(blank);
+    two_probes(mask, &mut steps)
+}
+
+#[test]
+fn a_mask_is_probed_byte_by_byte(rt: HostRuntime) -> Result<(), Fail> {
+    let alloc = rt.alloc();
+    let mask = ByteMask::of(alloc, &mask_of(alloc, &[(1, 255), (3, 1)])?)?;
+    assert_eq!(rt; probed::<Brand>(&mask, Blank::new(1)), (1, 0));
     Ok(())
 }
 

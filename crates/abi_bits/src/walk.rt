@@ -2,7 +2,7 @@
 ghost use Rattle.std.specs.Prelude.{◌≡◌, ◌≤◌, ◌<◌, ◌+◌, ℕ, nat_le, length, slice_index};
 ghost use Rattle.std.specs.List.{find, filter};
 ghost use Rattle.abi_bits.specs.Mask.{mask_at, IsMask, IsNext, SameFrom};
-ghost use Rattle.abi_bits.specs.Span.{byte_in, entries_in, first_in};
+ghost use Rattle.abi_bits.specs.Span.{byte_in, entries_in, first_in, AgreeFrom};
 
 use crate::MAX_SIZE;
 use crate::span::first;
@@ -75,7 +75,7 @@ impl<'a> Walk<'a> {
 /// the bytes from it on.
 fn rest_from(start: u64, bytes: &[u8], from: u64) -> (u64, &[u8])
     requires { start + length bytes.now ≤ MAX_SIZE }
-    ensures left { (at : ℕ) → from ≤ at → byte_in result.0 result.1.now at ≡ byte_in start bytes.now at }
+    ensures left { AgreeFrom from (byte_in result.0 result.1.now) (byte_in start bytes.now) }
     ensures gone { (at : ℕ) → at < from → byte_in result.0 result.1.now at ≡ 0 }
     ensures within { result.0 + length result.1.now ≤ MAX_SIZE }
     ensures some { 0 < length result.1.now → 0 < slice_index result.1.now 0 }

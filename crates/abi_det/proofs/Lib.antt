@@ -12,8 +12,11 @@ pub mod Niches
 pub mod SoundPlacements
 pub mod Patterns
 pub mod Places
+pub mod Placing
 pub mod Refused
 pub mod Refusing
+pub mod Seen
+pub mod Sides
 pub mod Sizes
 pub mod SoundRows
 pub mod Sums

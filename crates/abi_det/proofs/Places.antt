@@ -6,7 +6,7 @@ use Rattle.abi_det.specs.Roles.{larger, smaller, union_size, is_place}
 use Rattle.abi_det.specs.Offers.{Rules, Niche, offer_at, first_offer}
 use Rattle.abi_det.specs.Written.{written_placement, niched, tagged}
 use Rattle.abi_det.specs.Search.{niche_of}
-use Rattle.abi_det.specs.declared.search.Found.{Found}
+use Rattle.abi_det.specs.declared.offers.Offer.{Offer}
 
 -- an empty variant has place 0 alone
 pub shift_of_empty : (small : Frame) (size k : ℕ) → small.size ≡ 0 → is_place small size k ≡ true → k * small.align ≡ 0
@@ -39,13 +39,13 @@ module _ (rules : Rules) (large small : Frame) (size : ℕ) where
     | inr before ↦ rw (kept k n found before is) refl
   ]
 
-  pub first_found : (k : ℕ) (f : Found) → first_offer rules large small size k ≡ None → is_place small size k ≡ true → k < 8
+  pub first_found : (k : ℕ) (f : Offer) → first_offer rules large small size k ≡ None → is_place small size k ≡ true → k < 8
       → Some (niche_of f) ≡ offer_at rules large small size k → Some (k, niche_of f) ≡ first_offer rules large small size 8
   unfolding first_offer
   first_found k f before is lt offers = sym (kept (suc k) 8 (k, niche_of f) (omega arith) (rw (before, is, ← offers) refl))
 
 -- the placement that the first offer makes is the written one
-pub written_niched : (rules : Rules) (ok err : Frame) (k : ℕ) (f : Found) → Some (k, niche_of f) ≡ first_offer rules (larger ok err) (smaller ok err) (union_size ok err) 8
+pub written_niched : (rules : Rules) (ok err : Frame) (k : ℕ) (f : Offer) → Some (k, niche_of f) ≡ first_offer rules (larger ok err) (smaller ok err) (union_size ok err) 8
     → niched ok err k (niche_of f) ≡ written_placement rules ok err
 unfolding written_placement
 written_niched rules ok err k f h = rw (← h) refl

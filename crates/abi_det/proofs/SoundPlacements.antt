@@ -361,12 +361,5 @@ placements_sound rules ok err so se =
     by_search None none = tag_sound ok err so se
     by_search (Some found) f = niche_sound_both rules ok err so se found.0 f.2.0 found.1 f.1 f.2.1
 
--- the variants are well-formed where both roles are
-both_well_formed : (b : Bool) (ok err : Frame) → IsWellFormed (cond b ok err) → IsWellFormed (cond b err ok) → IsWellFormed ok × IsWellFormed err
-both_well_formed true ok err l s = (l, s)
-both_well_formed false ok err l s = (s, l)
-
-pub placement_sound : (rules : Rules) (ok err : Frame) (p : Placement) → IsWellFormed (larger ok err) → IsWellFormed (smaller ok err) → p ≡ written_placement rules ok err → IsSoundPlacement ok err p
-placement_sound rules ok err p l s is =
-    let both = both_well_formed (ok_is_larger ok err) ok err l s in
-    subst (λ x. IsSoundPlacement ok err x) (sym is) (placements_sound rules ok err both.0 both.1)
+pub placement_sound : (rules : Rules) (ok err : Frame) (p : Placement) → IsWellFormed ok → IsWellFormed err → p ≡ written_placement rules ok err → IsSoundPlacement ok err p
+placement_sound rules ok err p so se is = subst (λ x. IsSoundPlacement ok err x) (sym is) (placements_sound rules ok err so se)

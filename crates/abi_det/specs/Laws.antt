@@ -21,18 +21,22 @@ UnionLaw = (ok err : Frame) → IsLawful ok → IsLawful err → union_size ok e
 -- the frame of a sum is lawful
 abbrev pub LawfulSumLaw : Type 0
 LawfulSumLaw =
-    (rules : Rules) (ok err : Frame) → IsLawful ok → IsLawful err → union_size ok err + (written_placement rules ok err).front ≤ max_size
+    (rules : Rules) (ok err : Frame) → IsLawful ok → IsLawful err
+    → union_size ok err + (written_placement rules ok err).front ≤ max_size
     → IsLawful (written_sum rules ok err)
 
 -- and keeps what frames keep
 abbrev pub WellFormedSumLaw : Type 0
 WellFormedSumLaw =
-    (rules : Rules) (ok err : Frame) → IsWellFormed ok → IsWellFormed err → union_size ok err + (written_placement rules ok err).front ≤ max_size
+    (rules : Rules) (ok err : Frame) → IsWellFormed ok → IsWellFormed err
+    → union_size ok err + (written_placement rules ok err).front ≤ max_size
     → IsWellFormed (written_sum rules ok err)
 
 -- every placement is sound
 abbrev pub SoundPlacementLaw : Type 0
-SoundPlacementLaw = (rules : Rules) (ok err : Frame) → IsWellFormed ok → IsWellFormed err → IsSoundPlacement ok err (written_placement rules ok err)
+SoundPlacementLaw =
+    (rules : Rules) (ok err : Frame) → IsWellFormed ok → IsWellFormed err
+    → IsSoundPlacement ok err (written_placement rules ok err)
 
 -- a place is one of eight
 abbrev pub PlaceLaw : Type 0
@@ -53,16 +57,22 @@ RefusedLaw =
 -- with a tag, and only with one, there are refusals: one that holds for each existing place, by rising place
 abbrev pub RefusalsLaw : Type 0
 RefusalsLaw =
-    (rules : Rules) (ok err : Frame) → IsMask ok.free → IsMask err.free → let p : Placement = written_placement rules ok err in
-    (p.kind ≡ kind.Tag → AreComplete rules ok err p.refusals) × (p.kind ≢ kind.Tag → p.refusals ≡ [])
+    (rules : Rules) (ok err : Frame) → IsMask ok.free → IsMask err.free
+    → let p : Placement = written_placement rules ok err in
+    (p.kind ≡ kind.Tag → AreComplete rules ok err p.refusals)
+    × (p.kind ≢ kind.Tag → p.refusals ≡ [])
 
 -- a written refusal names of each pattern the first byte that is not wholly free
 abbrev pub BlockingLaw : Type 0
-BlockingLaw = (free : ℕ → ℕ) (ps : List Pair) → lies_free free ps ≡ false → IsFirstBlocking free ps (first_blocking free ps)
+BlockingLaw =
+    (free : ℕ → ℕ) (ps : List Pair) → lies_free free ps ≡ false
+    → IsFirstBlocking free ps (first_blocking free ps)
 
 -- the head of forbidden values is what their first item offers
 abbrev pub HeadLaw : Type 0
-HeadLaw = (v : ForbiddenValues) (ps : List Pair) → head v ≡ Some ps → first_of (offered (items v)) ≡ Some ps
+HeadLaw =
+    (v : ForbiddenValues) (ps : List Pair) → head v ≡ Some ps → first_of (offered (items v))
+    ≡ Some ps
 
 -- the union is the least multiple of the sum's alignment that both variants fit into
 abbrev pub RoundLaw : Type 0
@@ -74,5 +84,7 @@ RoundLaw =
 -- a sum is as large as its union, and one alignment larger exactly where no existing place offers a niche
 abbrev pub SizeLaw : Type 0
 SizeLaw =
-    (rules : Rules) (ok err : Frame) → IsMask ok.free → IsMask err.free → let none : Type 0 = OffersNone rules (larger ok err) (smaller ok err) (union_size ok err) 8 in
-    (none → (written_sum rules ok err).size ≡ union_size ok err + sum_align ok err) × ((none → ⊥) → (written_sum rules ok err).size ≡ union_size ok err)
+    (rules : Rules) (ok err : Frame) → IsMask ok.free → IsMask err.free
+    → let none : Type 0 = OffersNone rules (larger ok err) (smaller ok err) (union_size ok err) 8 in
+    (none → (written_sum rules ok err).size ≡ union_size ok err + sum_align ok err)
+    × ((none → ⊥) → (written_sum rules ok err).size ≡ union_size ok err)

@@ -1,3 +1,4 @@
+pub mod Counted
 pub mod Frame
 pub mod FrameOf
 pub mod Laws
@@ -7,6 +8,7 @@ pub mod SoundPlacement
 pub mod Refusals
 pub mod Roles
 pub mod Search
+pub mod Sides
 pub mod State
 pub mod Written
 pub mod Writes

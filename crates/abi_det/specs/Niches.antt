@@ -14,11 +14,14 @@ use Rattle.abi_det.specs.declared.determinant.Test.TheVariants as test
 
 -- pattern number n of the list lies in wholly free bytes, and t tests it
 abbrev pub IsFreePattern : (ℕ → ℕ) → List (List Pair) → ℕ → Test → Type 0
-IsFreePattern free pss n t = (n < length pss) × (lies_free free (slice_index_or pss n []) ≡ true) × (t ≡ test.ValueIsErr (slice_index_or pss n []))
+IsFreePattern free pss n t =
+    (n < length pss) × (lies_free free (slice_index_or pss n []) ≡ true)
+    × (t ≡ test.ValueIsErr (slice_index_or pss n []))
 
 -- bit number n below the size is one of the bits told, and t tests it
 abbrev pub IsFreeBit : (ℕ → ℕ) → ℕ → ℕ → Test → Type 0
-IsFreeBit bits size n t = (n < 8 * size) × (bit_at (bits (n / 8)) (n % 8) ≡ 1) × (t ≡ test.BitIsErr (n / 8) (2 ^ (n % 8)))
+IsFreeBit bits size n t =
+    (n < 8 * size) × (bit_at (bits (n / 8)) (n % 8) ≡ 1) × (t ≡ test.BitIsErr (n / 8) (2 ^ (n % 8)))
 
 -- what an empty smaller variant takes of the larger is one pattern
 abbrev pub IsLeading : Option (List Pair) → ℕ → Test → Type 0
@@ -32,7 +35,8 @@ IsNiche rules large small size k kind.SmallerPattern n t =
 IsNiche rules large small size k kind.LargerPattern n t =
     ((small.size ≡ 0) × IsLeading (leading_pattern rules large) n t)
     ⊎ ((small.size ≢ 0) × IsFreePattern (union_byte small (k * small.align) size) (offered large.forbids) n t)
-IsNiche rules large small size k kind.SharedBit n t = IsFreeBit (spare_byte large small (k * small.align) size) size n t
+IsNiche rules large small size k kind.SharedBit n t =
+    IsFreeBit (spare_byte large small (k * small.align) size) size n t
 IsNiche rules large small size k kind.Tag n t = ⊥
 
 abbrev pub rank : Kind → ℕ
@@ -47,15 +51,18 @@ IsSooner a m b n = (rank a < rank b) ⊎ ((a ≡ b) × (m < n))
 
 -- the first niche of place k, or none
 abbrev pub IsFirstAt : Rules → Frame → Frame → ℕ → ℕ → Option Niche → Type 0
-IsFirstAt rules large small size k None = (a : Kind) (m : ℕ) (t : Test) → IsNiche rules large small size k a m t → ⊥
+IsFirstAt rules large small size k None =
+    (a : Kind) (m : ℕ) (t : Test) → IsNiche rules large small size k a m t → ⊥
 IsFirstAt rules large small size k (Some niche) =
     (n : ℕ) × IsNiche rules large small size k niche.kind n niche.test
-    × ((a : Kind) (m : ℕ) (t : Test) → IsNiche rules large small size k a m t → IsSooner a m niche.kind n → ⊥)
+    × ((a : Kind) (m : ℕ) (t : Test) → IsNiche rules large small size k a m t
+    → IsSooner a m niche.kind n → ⊥)
 
 -- no existing place below `places` offers anything
 abbrev pub OffersNone : Rules → Frame → Frame → ℕ → ℕ → Type 0
 OffersNone rules large small size places =
-    (k : ℕ) → k < places → is_place small size k ≡ true → (a : Kind) (m : ℕ) (t : Test) → IsNiche rules large small size k a m t → ⊥
+    (k : ℕ) → k < places → is_place small size k ≡ true → (a : Kind) (m : ℕ) (t : Test)
+    → IsNiche rules large small size k a m t → ⊥
 
 -- the first niche of the first existing place below `places` that offers one, or none
 abbrev pub IsFirstBelow : Rules → Frame → Frame → ℕ → ℕ → Option (ℕ × Niche) → Type 0

@@ -43,13 +43,19 @@ abbrev pub by_bit : Option Pair → Option Niche
 by_bit None = None
 by_bit (Some e) = Some (record { kind = kind.SharedBit; test = test.BitIsErr e.0 e.1 })
 
+-- the first of the patterns, moved, that lies in wholly free bytes
+abbrev pub first_lying : (ℕ → ℕ) → ℕ → List (List Pair) → Option (List Pair)
+first_lying free by pss = find (lies_free free) (map (moved_pairs by) pss)
+
 -- the first pattern of the smaller variant, moved to its place, that lies in bytes that the larger leaves wholly free
 abbrev pub smaller_pattern : Frame → Frame → ℕ → ℕ → Option (List Pair)
-smaller_pattern large small size shift = find (lies_free (union_byte large 0 size)) (map (moved_pairs shift) (offered small.forbids))
+smaller_pattern large small size shift =
+    first_lying (union_byte large 0 size) shift (offered small.forbids)
 
 -- the first pattern of the larger variant that lies in bytes that the smaller leaves wholly free
 abbrev pub larger_pattern : Frame → Frame → ℕ → ℕ → Option (List Pair)
-larger_pattern large small size shift = find (lies_free (union_byte small shift size)) (offered large.forbids)
+larger_pattern large small size shift =
+    find (lies_free (union_byte small shift size)) (offered large.forbids)
 
 -- what an empty smaller variant takes of the larger's patterns: the head, or under rules two the first
 abbrev pub leading_pattern : Rules → Frame → Option (List Pair)
@@ -58,16 +64,33 @@ leading_pattern version.Two large = first_of (offered large.forbids)
 
 -- the least bit that both leave free
 abbrev pub shared_bit : Frame → Frame → ℕ → ℕ → Option Pair
-shared_bit large small size shift = least_bit (entries_below (spare_byte large small shift size) size)
+shared_bit large small size shift =
+    least_bit (entries_below (spare_byte large small shift size) size)
+
+-- what place 0 of an empty smaller variant offers
+abbrev pub offer_to_empty : Rules → Frame → Frame → ℕ → Option Niche
+offer_to_empty rules large small size =
+    or_else (by_pattern kind.LargerPattern (leading_pattern rules large))
+    (by_bit (shared_bit large small size 0))
+
+-- what a place that starts at `shift` offers besides the smaller variant's patterns
+abbrev pub larger_or_bit : Frame → Frame → ℕ → ℕ → Option Niche
+larger_or_bit large small size shift =
+    or_else (by_pattern kind.LargerPattern (larger_pattern large small size shift))
+    (by_bit (shared_bit large small size shift))
+
+-- what a place that starts at `shift` offers where the smaller variant is not empty
+abbrev pub offer_beside : Frame → Frame → ℕ → ℕ → Option Niche
+offer_beside large small size shift =
+    or_else (by_pattern kind.SmallerPattern (smaller_pattern large small size shift))
+    (larger_or_bit large small size shift)
 
 -- what place k offers: of its kinds the least, and of that kind the first pattern or the least bit
 unfoldable pub offer_at : Rules → Frame → Frame → ℕ → ℕ → Option Niche
 offer_at rules large small size k =
     if small.size == 0
-    then or_else (by_pattern kind.LargerPattern (leading_pattern rules large)) (by_bit (shared_bit large small size 0))
-    else or_else (by_pattern kind.SmallerPattern (smaller_pattern large small size (k * small.align)))
-    (or_else (by_pattern kind.LargerPattern (larger_pattern large small size (k * small.align)))
-    (by_bit (shared_bit large small size (k * small.align))))
+    then offer_to_empty rules large small size
+    else offer_beside large small size (k * small.align)
 
 abbrev pub numbered : ℕ → Option Niche → Option (ℕ × Niche)
 numbered k None = None

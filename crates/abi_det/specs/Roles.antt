@@ -1,5 +1,5 @@
 -- The two variants of a sum in one union: which is the larger, where the smaller may stand, and what each leaves free.
-use Rattle.std.specs.Prelude.{◌≡◌, ℕ, ◌+◌, ◌-◌, ◌*◌, ◌<◌, List, Bool, ◌&&◌, nat_le, nat_lt, ◌==◌, max, bit_and, length, slice_index, if◌then◌else◌}
+use Rattle.std.specs.Prelude.{◌≡◌, ℕ, ◌+◌, ◌-◌, ◌*◌, ◌<◌, List, Bool, ◌&&◌, nat_le, nat_lt, ◌==◌, max, bit_and, if◌then◌else◌}
 use Rattle.std.specs.List.{list_all}
 use Rattle.std.specs.Int.{next_multiple_of}
 use Rattle.abi_bits.specs.Pairs.{Pair}
@@ -25,12 +25,17 @@ union_size ok err = next_multiple_of (max ok.size err.size) (sum_align ok err)
 
 -- place k of the smaller variant stands at k times its alignment, where it ends within the union; of an empty one there is place 0 alone
 abbrev pub is_place : Frame → ℕ → ℕ → Bool
-is_place small size k = if small.size == 0 then k == 0 else (nat_lt k 8 && nat_le (k * small.align + small.size) size)
+is_place small size k =
+    if small.size == 0 then k == 0 else (nat_lt k 8 && nat_le (k * small.align + small.size) size)
 
 -- the bits of the byte at `at` that a variant at `shift` leaves free in a union of `size` bytes: its own free bits, and all bits of the bytes beside it
 abbrev pub union_byte : Frame → ℕ → ℕ → ℕ → ℕ
 union_byte f shift size at =
-    if nat_lt at size then (if nat_lt at shift then 255 else (if nat_lt at (shift + f.size) then mask_at f.free (at - shift) else 255)) else 0
+    if nat_lt at size
+    then (if nat_lt at shift
+    then 255
+    else (if nat_lt at (shift + f.size) then mask_at f.free (at - shift) else 255))
+    else 0
 
 -- every byte of the pattern is wholly free
 abbrev pub lies_free : (ℕ → ℕ) → List Pair → Bool
@@ -39,8 +44,6 @@ lies_free free ps = list_all (λ p. free p.0 == 255) ps
 -- the bits of a byte that are free in both union frames; where the smaller variant is empty, those of the larger itself
 abbrev pub spare_byte : Frame → Frame → ℕ → ℕ → ℕ → ℕ
 spare_byte large small shift size at =
-    if small.size == 0 then mask_at large.free at else bit_and (union_byte large 0 size at) (union_byte small shift size at)
-
--- the bytes tell the bits of the first bytes of the set, one for each
-abbrev pub AreFirstBytes : List Pair → List ℕ → Type 0
-AreFirstBytes free bytes = (at : ℕ) → at < length bytes → slice_index bytes at ≡ mask_at free at
+    if small.size == 0
+    then mask_at large.free at
+    else bit_and (union_byte large 0 size at) (union_byte small shift size at)

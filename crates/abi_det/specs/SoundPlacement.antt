@@ -25,7 +25,9 @@ pub record IsWellFormed (f : Frame) : Type 0 where
 -- bit k of the byte at `at` is free for a variant at `shift`: its own free bits, and all bits beside it
 abbrev pub is_free_at : Frame → ℕ → ℕ → ℕ → Bool
 is_free_at side shift at k =
-    if nat_lt at shift then true else (if nat_lt at (shift + side.size) then bit_at (mask_at side.free (at - shift)) k == 1 else true)
+    if nat_lt at shift then true
+    else (if nat_lt at (shift + side.size) then bit_at (mask_at side.free (at - shift)) k == 1
+    else true)
 
 -- the test is written for a variant where its truth is to be `sign`; a pattern that must be absent is not
 abbrev pub is_imposed : Test → Bool → Bool
@@ -43,11 +45,14 @@ IsTest (test.BitIsErr offset mask) size = (offset < size) × ((b : ℕ) × (b < 
 pub record IsSide (tested : Test) (exported : List Pair) (size : ℕ) (side : Frame) (shift : ℕ) (sign : Bool) : Type 0 where
   pub inside : shift + side.size ≤ size
   -- where the test is written, it takes only bits that are free for the variant
-  pub imposed : is_imposed tested sign ≡ true → (at k : ℕ) → k < 8 → is_tested tested at k ≡ true → is_free_at side shift at k ≡ true
+  pub imposed : is_imposed tested sign ≡ true → (at k : ℕ) → k < 8 → is_tested tested at k ≡ true
+      → is_free_at side shift at k ≡ true
   -- where it is not, the variant never has what it tests
-  pub forbids : is_imposed tested sign ≡ false → (image : ℕ → ℕ) → test_holds tested image ≡ true → list_any (is_match (seen_from shift image)) side.forbids ≡ true
+  pub forbids : is_imposed tested sign ≡ false → (image : ℕ → ℕ) → test_holds tested image ≡ true
+      → list_any (is_match (seen_from shift image)) side.forbids ≡ true
   -- the exported bits are free for the variant
-  pub exports : (at k : ℕ) → k < 8 → bit_at (mask_at exported at) k ≡ 1 → is_free_at side shift at k ≡ true
+  pub exports : (at k : ℕ) → k < 8 → bit_at (mask_at exported at) k ≡ 1
+      → is_free_at side shift at k ≡ true
 
 -- the placement tells both variants of a sum
 pub record IsSoundPlacement (ok err : Frame) (p : Placement) : Type 0 where
@@ -55,4 +60,5 @@ pub record IsSoundPlacement (ok err : Frame) (p : Placement) : Type 0 where
   pub err_side : IsSide p.determinant.test p.exported (union_size ok err + p.front) err (p.front + p.err_shift) (not p.determinant.«not»)
   pub tested : IsTest p.determinant.test (union_size ok err + p.front)
   -- no bit of the determinant is exported
-  pub kept : (at k : ℕ) → k < 8 → bit_at (mask_at p.exported at) k ≡ 1 → is_tested p.determinant.test at k ≡ false
+  pub kept : (at k : ℕ) → k < 8 → bit_at (mask_at p.exported at) k ≡ 1
+      → is_tested p.determinant.test at k ≡ false

@@ -48,7 +48,8 @@ put_pairs (p ∷ ps) xs = put_pairs ps (slice_set xs p.0 p.1)
 -- the bytes with the bits of the mask set, or cleared, in one of them
 abbrev pub put_bits : ℕ → ℕ → Bool → List ℕ → List ℕ
 put_bits offset mask sign xs =
-    if sign then slice_set xs offset (bit_or (slice_index xs offset) mask) else slice_set xs offset (bit_and (slice_index xs offset) (bit_not w8 mask))
+    if sign then slice_set xs offset (bit_or (slice_index xs offset) mask)
+    else slice_set xs offset (bit_and (slice_index xs offset) (bit_not w8 mask))
 
 -- the bytes after the test's truth was imposed on them: it was made to hold, or its one bit was cleared; a pattern is only ever written
 abbrev pub imposed : Test → Bool → List ℕ → List ℕ

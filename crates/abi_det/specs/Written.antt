@@ -3,7 +3,8 @@ use Rattle.std.specs.Prelude.{◌≡◌, ℕ, zero, suc, ◌+◌, ◌*◌, List,
 use Rattle.std.specs.List.{list_any}
 use Rattle.abi_bits.specs.Pairs.{Pair, moved_pairs}
 use Rattle.abi_bits.specs.Mask.{entries_below}
-use Rattle.abi_bits.specs.Forbidden.{offered}
+use Rattle.abi_bits.specs.Forbidden.{Item, items, head, offered}
+use Rattle.abi_bits.specs.declared.forbidden_values.ForbiddenValues.{ForbiddenValues}
 use Rattle.abi_bits.specs.declared.saturating_add_value.SaturatingAddValue.TheVariants as count
 use Rattle.abi_det.specs.Frame.{Frame}
 use Rattle.abi_det.specs.Roles.{ok_is_larger, larger, smaller, sum_align, union_size, is_place, union_byte, spare_byte}
@@ -12,6 +13,7 @@ use Rattle.abi_det.specs.declared.placements.Kind.{Kind}
 use Rattle.abi_det.specs.declared.placements.Kind.TheVariants as kind
 use Rattle.abi_det.specs.declared.placements.Placement.{Placement}
 use Rattle.abi_det.specs.declared.placements.Refusal.{Refusal}
+use Rattle.abi_det.specs.declared.determinant.Determinant.{Determinant}
 use Rattle.abi_det.specs.declared.determinant.Test.{Test}
 use Rattle.abi_det.specs.declared.determinant.Test.TheVariants as test
 
@@ -20,6 +22,10 @@ abbrev pub first_blocking : (ℕ → ℕ) → List Pair → ℕ
 first_blocking free [] = 0
 first_blocking free (p ∷ ps) = if free p.0 == 255 then first_blocking free ps else p.0
 
+-- the first byte of each pattern, moved, that is not wholly free
+abbrev pub blocking_bytes : (ℕ → ℕ) → ℕ → List (List Pair) → List ℕ
+blocking_bytes free by pss = map (first_blocking free) (map (moved_pairs by) pss)
+
 -- what refuses place k: the first blocking byte of each offered pattern
 abbrev pub refusal_at : Frame → Frame → ℕ → ℕ → Refusal
 refusal_at large small size k =
@@ -27,15 +33,17 @@ refusal_at large small size k =
     then record { place = k; smaller = []; larger = [] }
     else record {
       place = k;
-      smaller = map (first_blocking (union_byte large 0 size)) (map (moved_pairs (k * small.align)) (offered small.forbids));
-      larger = map (first_blocking (union_byte small (k * small.align) size)) (offered large.forbids);
+      smaller = blocking_bytes (union_byte large 0 size) (k * small.align) (offered small.forbids);
+      larger =
+          map (first_blocking (union_byte small (k * small.align) size)) (offered large.forbids);
     }
 
 -- one refusal for each existing place below `places`, in rising order
 unfoldable pub refusals_below : Frame → Frame → ℕ → ℕ → List Refusal
 refusals_below large small size zero = []
 refusals_below large small size (suc k) =
-    refusals_below large small size k ++ (if is_place small size k then refusal_at large small size k ∷ [] else [])
+    refusals_below large small size k
+    ++ (if is_place small size k then refusal_at large small size k ∷ [] else [])
 
 -- the byte is one of the pattern's, and is not wholly free
 abbrev pub is_blocking : (ℕ → ℕ) → List Pair → ℕ → Bool
@@ -52,13 +60,27 @@ abbrev pub is_none_named : List ℕ → Bool
 is_none_named [] = true
 is_none_named (at ∷ ats) = false
 
+-- one blocking byte for each pattern, moved
+abbrev pub all_blocking : (ℕ → ℕ) → ℕ → List (List Pair) → List ℕ → Bool
+all_blocking free by pss ats = are_blocking free (map (moved_pairs by) pss) ats
+
+-- the refusal names a blocking byte for each pattern of both variants; for an empty smaller one none, and none leads
+abbrev pub are_named :
+    Option (List Pair) → List Item → List Item → Frame → Frame → ℕ → Refusal → Bool
+are_named leading larger smaller large small size r =
+    if small.size == 0
+    then is_none_named r.smaller && is_none_named r.larger && is_none leading
+    else all_blocking (union_byte large 0 size) (r.place * small.align) (offered smaller) r.smaller
+    && are_blocking (union_byte small (r.place * small.align) size) (offered larger) r.larger
+
+-- the same of variants that forbid these values
+abbrev pub names_each : ForbiddenValues → ForbiddenValues → Frame → Frame → ℕ → Refusal → Bool
+names_each larger smaller = are_named (head larger) (items larger) (items smaller)
+
 abbrev pub refuses : Rules → Frame → Frame → ℕ → Refusal → Bool
 refuses rules large small size r =
     is_place small size r.place
-    && (if small.size == 0
-    then is_none_named r.smaller && is_none_named r.larger && is_none (leading_pattern rules large)
-    else are_blocking (union_byte large 0 size) (map (moved_pairs (r.place * small.align)) (offered small.forbids)) r.smaller
-    && are_blocking (union_byte small (r.place * small.align) size) (offered large.forbids) r.larger)
+    && are_named (leading_pattern rules large) large.forbids small.forbids large small size r
     && is_none (shared_bit large small size (r.place * small.align))
 
 -- the refusal holds for the sum of the two
@@ -72,11 +94,24 @@ means_ok kind.LargerPattern ok_larger = not ok_larger
 means_ok kind.SharedBit ok_larger = not ok_larger
 means_ok kind.Tag ok_larger = not ok_larger
 
+-- the determinant of a niche of that kind, or of a tag
+abbrev pub told_by : Kind → Bool → Test → Determinant
+told_by k ok_larger t = record { «not» = means_ok k ok_larger; test = t }
+
 -- the bits of a byte without the one bit that the test takes; a pattern's bytes are free in neither frame
 abbrev pub without : Test → (ℕ → ℕ) → ℕ → ℕ
 without test.BitDeterminant bits at = bits at
 without (test.ValueIsErr ps) bits at = bits at
-without (test.BitIsErr offset mask) bits at = if at == offset then bit_xor (bits at) mask else bits at
+without (test.BitIsErr offset mask) bits at =
+    if at == offset then bit_xor (bits at) mask else bits at
+
+-- the bits of a byte that are free in both variants of a sum, the smaller standing at `shift`
+abbrev pub shared_bits : Frame → Frame → ℕ → ℕ → ℕ
+shared_bits ok err shift = spare_byte (larger ok err) (smaller ok err) shift (union_size ok err)
+
+-- what is exported of the bits told below n
+abbrev pub exported : Test → (ℕ → ℕ) → ℕ → List Pair
+exported t bits n = entries_below (without t bits) n
 
 -- what a tag leaves free of the bytes in front: bits 1 to 7 of byte 0, and the other bytes
 abbrev pub beside_tag : ℕ → ℕ
@@ -89,7 +124,7 @@ tagged ok err = record {
   place = 0;
   front = sum_align ok err;
   kind = kind.Tag;
-  determinant = record { «not» = means_ok kind.Tag (ok_is_larger ok err); test = test.BitDeterminant };
+  determinant = told_by kind.Tag (ok_is_larger ok err) test.BitDeterminant;
   exported = entries_below beside_tag (sum_align ok err);
   refusals = refusals_below (larger ok err) (smaller ok err) (union_size ok err) 8;
 }
@@ -102,8 +137,8 @@ niched ok err k niche =
       place = k;
       front = 0;
       kind = niche.kind;
-      determinant = record { «not» = means_ok niche.kind (ok_is_larger ok err); test = niche.test };
-      exported = entries_below (without niche.test (spare_byte (larger ok err) (smaller ok err) shift (union_size ok err))) (union_size ok err);
+      determinant = told_by niche.kind (ok_is_larger ok err) niche.test;
+      exported = exported niche.test (shared_bits ok err shift) (union_size ok err);
       refusals = [];
     }
 
@@ -112,7 +147,8 @@ placement_of ok err None = tagged ok err
 placement_of ok err (Some found) = niched ok err found.0 found.1
 
 unfoldable pub written_placement : Rules → Frame → Frame → Placement
-written_placement rules ok err = placement_of ok err (first_offer rules (larger ok err) (smaller ok err) (union_size ok err) 8)
+written_placement rules ok err =
+    placement_of ok err (first_offer rules (larger ok err) (smaller ok err) (union_size ok err) 8)
 
 -- the placement is that of the two under some rules
 abbrev pub IsPlacement : Frame → Frame → Placement → Type 0
@@ -135,4 +171,5 @@ written_sum rules ok err = sum_frame ok err (written_placement rules ok err)
 
 -- the frame is the written one under whichever rules the placement is
 abbrev pub IsWrittenWith : Frame → Frame → Placement → Frame → Type 0
-IsWrittenWith ok err p sum = (rules : Rules) → p ≡ written_placement rules ok err → sum ≡ written_sum rules ok err
+IsWrittenWith ok err p sum =
+    (rules : Rules) → p ≡ written_placement rules ok err → sum ≡ written_sum rules ok err

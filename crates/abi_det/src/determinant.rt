@@ -9,7 +9,8 @@ use std::alloc::Global;
 /// What tells the variant of a sum: a test of its bytes, and what the test's truth means.
 #[derive(Debug, Drop)]
 pub struct Determinant {
-    /// The variant is `Ok` exactly where the test's truth equals this.
+    /// The variant is `Ok` exactly where the test's truth equals this. So where it is true, a niche that is
+    /// present means `Ok`, although the names of the tests speak of `Err`.
     pub not: bool,
     /// The test of the sum's bytes.
     pub test: Test,

@@ -1,7 +1,5 @@
 ghost use Rattle.std.specs.Prelude.{◌≡◌, ◌≤◌, ◌<◌, IfOk};
 ghost use Rattle.abi_bits.specs.Mask.{entries_below};
-ghost use Rattle.abi_det.specs.Roles.{spare_byte};
-ghost use Rattle.abi_det.specs.Search.{IsSpared};
 ghost use Rattle.abi_det.specs.Written.{without, beside_tag};
 
 use crate::determinant::Test;
@@ -11,6 +9,8 @@ use abi_num::{MAX_ALIGN, OutOfMemory};
 use std::alloc::Global;
 
 impl Roles<'_> {
+    ghost use Rattle.abi_det.specs.Search.{IsSpared, spare_of, exported_of};
+
     /// The bits that both variants leave free, without the one bit that the test takes.
     #[tactic(auto, using(crate::proofs::Exporting::nothing_below, crate::proofs::Exporting::room_for_next, crate::proofs::Exporting::next_exported, crate::proofs::Exporting::all_exported))]
     pub(crate) fn exported(
@@ -19,8 +19,8 @@ impl Roles<'_> {
         shift: u64,
         test: &Test,
     ) -> Result<BitMask, OutOfMemory>
-        requires { IsSpared (spare_byte self.now.large.now self.now.small.now shift self.now.size) test.now }
-        ensures { IfOk result (λ mask. mask ≡ entries_below (without test.now (spare_byte self.now.large.now self.now.small.now shift self.now.size)) self.now.size) }
+        requires { IsSpared (spare_of self.now shift) test.now }
+        ensures { IfOk result (λ mask. mask ≡ exported_of self.now shift test.now) }
     {
         let mut mask = BitMask::new(alloc);
         let mut own = self.own_bits();

@@ -1,40 +1,38 @@
-ghost use Rattle.std.specs.Prelude.{◌≡◌, ◌≤◌, ◌<◌, IsTrue, IfOk, map, option_map, ◌+◌, [], ◌∷◌, ◌==◌};
-ghost use Rattle.std.specs.List.{find, list_any};
+ghost use Rattle.std.specs.Prelude.{◌≡◌, ◌≤◌, ◌<◌, IsTrue, IfOk, option_map, ◌+◌, [], ◌∷◌, ◌==◌};
+ghost use Rattle.std.specs.List.{list_any};
 ghost use Rattle.abi_bits.specs.Pairs.{are_below, max_size, moved_pairs};
-ghost use Rattle.abi_bits.specs.Mask.{mask_at};
-ghost use Rattle.abi_det.specs.Roles.{union_byte, lies_free, AreFirstBytes};
+ghost use Rattle.abi_det.specs.Roles.{lies_free};
 ghost use Rattle.abi_bits.specs.Forbidden.{items, offered};
-ghost use Rattle.abi_det.specs.Written.{first_blocking, is_blocking, are_blocking};
-ghost use Rattle.abi_det.specs.Search.{after_blocking};
+ghost use Rattle.abi_det.specs.Offers.{first_lying};
+ghost use Rattle.abi_det.specs.Written.{first_blocking, is_blocking, blocking_bytes, all_blocking};
 
-use crate::layout::Layout;
+use crate::variant::Variant;
 use abi_bits::{ForbiddenValues, MAX_SIZE, Offsets, Pattern};
 use abi_num::{Items, OutOfMemory};
 use std::alloc::Global;
 
 /// A variant at its place in a union of `size` bytes.
 #[derive(Drop)]
-pub(crate) struct PlacedVariant<'a> {
-    pub(crate) layout: &'a Layout,
+pub(crate) struct PlacedVariant<'v, 'a> {
+    pub(crate) variant: &'v Variant<'a>,
     /// Where the variant starts, in bytes.
     pub(crate) shift: u64,
     pub(crate) size: u64,
-    /// The bits that the variant leaves free in its first bytes, one byte each: those that are at hand.
-    pub(crate) bytes: &'a [u8],
     ghost within: { size ≤ max_size },
-    ghost at_hand: { AreFirstBytes layout.now.free bytes.now },
 }
 
-impl PlacedVariant<'_> {
+impl PlacedVariant<'_, '_> {
+    ghost use Rattle.abi_det.specs.Search.{free_of};
+
     /// The bits of a byte of the union that the variant leaves free.
     pub(crate) fn byte_at(&self, at: u64) -> u8
-        ensures { result ≡ union_byte self.now.layout.now self.now.shift self.now.size at }
+        ensures { result ≡ free_of self.now at }
     {
         if at < self.size {
             if at < self.shift {
                 255
-            } else if at - self.shift < self.layout.size() {
-                self.own_byte_at(at - self.shift)
+            } else if at - self.shift < self.variant.size() {
+                self.variant.unused().byte_at(at - self.shift)
             } else {
                 255
             }
@@ -43,21 +41,11 @@ impl PlacedVariant<'_> {
         }
     }
 
-    /// The bits that the variant leaves free in its byte at the offset `at`: at hand, or looked up in its mask.
-    fn own_byte_at(&self, at: u64) -> u8
-        ensures { result ≡ mask_at self.now.layout.now.free at }
-    {
-        match self.bytes.get(at as usize) {
-            Some(byte) => *byte,
-            None => self.layout.unused().byte_at(at),
-        }
-    }
-
     /// Whether the pattern, moved by that many bytes, lies in bytes that the variant leaves wholly free.
     pub(crate) fn lies_free(&self, pairs: &[(u64, u8)], by: u64) -> bool
         requires below { IsTrue (are_below MAX_SIZE pairs.now) }
         requires near { by ≤ MAX_SIZE }
-        ensures { result ≡ lies_free (union_byte self.now.layout.now self.now.shift self.now.size) (moved_pairs by pairs.now) }
+        ensures { result ≡ lies_free (free_of self.now) (moved_pairs by pairs.now) }
     {
         for (offset, _) in pairs {
             if self.byte_at(*offset + by) != 255 {
@@ -77,7 +65,7 @@ impl PlacedVariant<'_> {
         by: u64,
     ) -> Result<Option<Pattern>, OutOfMemory>
         requires { by ≤ MAX_SIZE }
-        ensures { IfOk result (λ found. found ≡ find (lies_free (union_byte self.now.layout.now self.now.shift self.now.size)) (map (moved_pairs by) patterns.now)) }
+        ensures { IfOk result (λ found. found ≡ first_lying (free_of self.now) by patterns.now) }
     {
         for pattern in patterns {
             if self.lies_free(pattern.pairs(), by) {
@@ -93,7 +81,7 @@ impl PlacedVariant<'_> {
     fn first_blocking(&self, pairs: &[(u64, u8)], by: u64) -> u64
         requires below { IsTrue (are_below MAX_SIZE pairs.now) }
         requires near { by ≤ MAX_SIZE }
-        ensures { result ≡ first_blocking (union_byte self.now.layout.now self.now.shift self.now.size) (moved_pairs by pairs.now) }
+        ensures { result ≡ first_blocking (free_of self.now) (moved_pairs by pairs.now) }
     {
         for (offset, _) in pairs {
             if self.byte_at(*offset + by) != 255 {
@@ -113,7 +101,7 @@ impl PlacedVariant<'_> {
         by: u64,
     ) -> Result<Offsets, OutOfMemory>
         requires { by ≤ MAX_SIZE }
-        ensures { IfOk result (λ offsets. offsets ≡ map (first_blocking (union_byte self.now.layout.now self.now.shift self.now.size)) (map (moved_pairs by) patterns.now)) }
+        ensures { IfOk result (λ all. all ≡ blocking_bytes (free_of self.now) by patterns.now) }
     {
         let mut offsets = Items::new(alloc);
         for pattern in patterns {
@@ -123,11 +111,13 @@ impl PlacedVariant<'_> {
     }
 }
 
-impl PlacedVariant<'_> {
+impl PlacedVariant<'_, '_> {
+    ghost use Rattle.abi_det.specs.Search.{free_of, after_all};
+
     /// Whether the byte of the union at offset `at` is one of the pattern's, moved by that many bytes, and the
     /// variant does not leave it wholly free.
     fn is_blocking(&self, pairs: &[(u64, u8)], by: u64, at: u64) -> bool
-        ensures { result ≡ is_blocking (union_byte self.now.layout.now self.now.shift self.now.size) (moved_pairs by pairs.now) at }
+        ensures { result ≡ is_blocking (free_of self.now) (moved_pairs by pairs.now) at }
     {
         if names(pairs, by, at) {
             self.byte_at(at) != 255
@@ -138,7 +128,8 @@ impl PlacedVariant<'_> {
 
     /// What is left of the offsets after a blocking byte for the pattern, moved by that many bytes.
     fn rest_after<'o>(&self, pairs: &[(u64, u8)], by: u64, offsets: &'o [u64]) -> Option<&'o [u64]>
-        ensures { option_map (λ rest. rest.now) result ≡ after_blocking (union_byte self.now.layout.now self.now.shift self.now.size) (moved_pairs by pairs.now ∷ []) offsets.now }
+        ensures { option_map (λ r. r.now) result
+            ≡ after_all (free_of self.now) by (pairs.now ∷ []) offsets.now }
     {
         match offsets.split_first() {
             Some((at, rest)) => {
@@ -160,8 +151,8 @@ impl PlacedVariant<'_> {
         by: u64,
         offsets: &'o [u64],
     ) -> Option<&'o [u64]>
-        ensures { option_map (λ rest. rest.now) result
-            ≡ after_blocking (union_byte self.now.layout.now self.now.shift self.now.size) (map (moved_pairs by) (offered (items values.now))) offsets.now }
+        ensures { option_map (λ r. r.now) result
+            ≡ after_all (free_of self.now) by (offered (items values.now)) offsets.now }
     {
         match values {
             ForbiddenValues::End => Some(offsets),
@@ -180,7 +171,8 @@ impl PlacedVariant<'_> {
     /// bytes, in order, and nothing else.
     #[tactic(auto, using(crate::proofs::Blocking::all_blocking, crate::proofs::Blocking::not_blocking))]
     pub(crate) fn are_blocking(&self, values: &ForbiddenValues, by: u64, offsets: &[u64]) -> bool
-        ensures { result ≡ are_blocking (union_byte self.now.layout.now self.now.shift self.now.size) (map (moved_pairs by) (offered (items values.now))) offsets.now }
+        ensures { result
+            ≡ all_blocking (free_of self.now) by (offered (items values.now)) offsets.now }
     {
         match self.rest_after_all(values, by, offsets) {
             Some(rest) => rest.is_empty(),

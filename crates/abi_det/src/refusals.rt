@@ -1,50 +1,37 @@
-ghost use Rattle.std.specs.Prelude.{◌≡◌, ◌*◌, ◌&&◌, IsTrue, IfOk, is_none, map, if◌then◌else◌, ◌==◌};
-ghost use Rattle.abi_bits.specs.Pairs.{moved_pairs};
-ghost use Rattle.abi_bits.specs.Forbidden.{head, offered};
-ghost use Rattle.abi_det.specs.Roles.{is_place, union_byte};
-ghost use Rattle.abi_det.specs.Offers.{One, leading_pattern, shared_bit};
-ghost use Rattle.abi_det.specs.Written.{refusal_at, refusals_below, refusal_holds, are_blocking, is_none_named};
+ghost use Rattle.std.specs.Prelude.{◌≡◌, IsTrue, IfOk, is_none};
+ghost use Rattle.abi_bits.specs.Forbidden.{head};
+ghost use Rattle.abi_det.specs.Roles.{is_place};
+ghost use Rattle.abi_det.specs.Offers.{One, shared_bit};
+ghost use Rattle.abi_det.specs.Written.{refusal_at, refusals_below, refusal_holds, names_each};
 
 use crate::layout::Layout;
 use crate::placements::{Refusal, Refusals};
-use crate::roles::{PLACES, Roles};
-use crate::search::Offered;
+use crate::roles::{PLACES, Roles, larger, smaller};
 use abi_bits::ForbiddenValues;
 use abi_num::{Items, OutOfMemory};
 use std::alloc::Global;
 
 impl Roles<'_> {
+    ghost use Rattle.abi_det.specs.Search.{of_roles};
+
     /// One refusal for each place that exists, in rising order.
     #[tactic(auto, using(crate::proofs::Refused::none_at_start, crate::proofs::Refused::one_more, crate::proofs::Refused::no_place))]
-    pub(crate) fn refusals(
-        &self,
-        alloc: Global,
-        patterns: &Offered,
-    ) -> Result<Refusals, OutOfMemory>
-        requires larger { patterns.now.larger ≡ offered self.now.large.now.forbids }
-        requires smaller { patterns.now.smaller ≡ offered self.now.small.now.forbids }
-        ensures { IfOk result (λ refusals. refusals ≡ refusals_below self.now.large.now self.now.small.now self.now.size 8) }
+    pub(crate) fn refusals(&self, alloc: Global) -> Result<Refusals, OutOfMemory>
+        ensures { IfOk result (λ refusals. refusals ≡ of_roles refusals_below self.now 8) }
     {
         let mut refusals = Items::new(alloc);
         for place in 0..PLACES {
             if self.has_place(place) {
-                refusals.push(self.refusal_at(alloc, patterns, place)?)?;
+                refusals.push(self.refusal_at(alloc, place)?)?;
             }
         }
         Ok(refusals)
     }
 
     /// Why a place offers no pattern: the first blocking byte of each.
-    fn refusal_at(
-        &self,
-        alloc: Global,
-        patterns: &Offered,
-        place: u64,
-    ) -> Result<Refusal, OutOfMemory>
-        requires larger { patterns.now.larger ≡ offered self.now.large.now.forbids }
-        requires smaller { patterns.now.smaller ≡ offered self.now.small.now.forbids }
-        requires exists { IsTrue (is_place self.now.small.now self.now.size place) }
-        ensures { IfOk result (λ refusal. refusal ≡ refusal_at self.now.large.now self.now.small.now self.now.size place) }
+    fn refusal_at(&self, alloc: Global, place: u64) -> Result<Refusal, OutOfMemory>
+        requires { IsTrue (is_place self.now.small self.now.size place) }
+        ensures { IfOk result (λ refusal. refusal ≡ of_roles refusal_at self.now place) }
     {
         if self.small.size() == 0 {
             Ok(Refusal {
@@ -54,12 +41,10 @@ impl Roles<'_> {
             })
         } else {
             let shift = self.shift(place);
-            let smaller = self
-                .placed_large()
-                .blocking(alloc, patterns.smaller.as_slice(), shift)?;
-            let larger = self
-                .placed_small(shift)
-                .blocking(alloc, patterns.larger.as_slice(), 0)?;
+            let large = self.placed_large();
+            let smaller = large.blocking(alloc, self.small.patterns(), shift)?;
+            let small = self.placed_small(shift);
+            let larger = small.blocking(alloc, self.large.patterns(), 0)?;
             Ok(Refusal {
                 place,
                 smaller,
@@ -76,9 +61,9 @@ impl Roles<'_> {
 pub fn check_refusal(ok: &Layout, err: &Layout, r: &Refusal) -> bool
     ensures { result ≡ refusal_holds One ok.now err.now r.now }
 {
-    let roles = Roles::new(ok, err);
+    let roles = Roles::bare(ok, err);
     if roles.has_place(r.place) {
-        if roles.blocks_patterns(r) {
+        if roles.blocks_patterns(larger(ok, err).forbidden(), smaller(ok, err).forbidden(), r) {
             roles.has_no_spare(roles.shift(r.place))
         } else {
             false
@@ -89,32 +74,30 @@ pub fn check_refusal(ok: &Layout, err: &Layout, r: &Refusal) -> bool
 }
 
 impl Roles<'_> {
-    /// Whether the refusal names what keeps each pattern from being a niche.
+    ghost use Rattle.abi_det.specs.Search.{of_roles};
+
+    /// Whether the refusal names what keeps each pattern of the variants, which forbid these values, from being
+    /// a niche.
     #[tactic(auto, using(crate::proofs::Blocking::none_named, crate::proofs::Moving::all_moved_by_none))]
-    fn blocks_patterns(&self, r: &Refusal) -> bool
-        requires { IsTrue (is_place self.now.small.now self.now.size r.now.place) }
-        ensures { result ≡ (if self.now.small.now.size == 0
-            then is_none_named r.now.smaller && is_none_named r.now.larger && is_none (leading_pattern One self.now.large.now)
-            else are_blocking (union_byte self.now.large.now 0 self.now.size) (map (moved_pairs (r.now.place * self.now.small.now.align)) (offered self.now.small.now.forbids)) r.now.smaller
-            && are_blocking (union_byte self.now.small.now (r.now.place * self.now.small.now.align) self.now.size) (offered self.now.large.now.forbids) r.now.larger) }
+    fn blocks_patterns(&self, large: &ForbiddenValues, small: &ForbiddenValues, r: &Refusal) -> bool
+        requires { IsTrue (is_place self.now.small self.now.size r.now.place) }
+        ensures { result ≡ of_roles (names_each large.now small.now) self.now r.now }
     {
         if self.small.size() == 0 {
-            r.smaller.as_slice().is_empty()
-                && r.larger.as_slice().is_empty()
-                && has_no_head(self.large.forbidden())
+            r.smaller.as_slice().is_empty() && r.larger.as_slice().is_empty() && has_no_head(large)
         } else {
             let shift = self.shift(r.place);
             self.placed_large()
-                .are_blocking(self.small.forbidden(), shift, r.smaller.as_slice())
+                .are_blocking(small, shift, r.smaller.as_slice())
                 && self
                     .placed_small(shift)
-                    .are_blocking(self.large.forbidden(), 0, r.larger.as_slice())
+                    .are_blocking(large, 0, r.larger.as_slice())
         }
     }
 
     /// Whether no bit is free in both variants.
     fn has_no_spare(&self, shift: u64) -> bool
-        ensures { result ≡ is_none (shared_bit self.now.large.now self.now.small.now self.now.size shift) }
+        ensures { result ≡ is_none (of_roles shared_bit self.now shift) }
     {
         let mut own = self.own_bits();
         self.next_spare(shift, &mut own, 0).is_none()
@@ -122,7 +105,7 @@ impl Roles<'_> {
 }
 
 /// Whether the very leftmost leaf offers no pattern.
-fn has_no_head(values: &ForbiddenValues) -> bool
+pub(crate) fn has_no_head(values: &ForbiddenValues) -> bool
     ensures { result ≡ is_none (head values.now) }
 {
     match values {

@@ -1,6 +1,5 @@
 ghost use Rattle.std.specs.Prelude.{◌≡◌, ◌<◌, ◌-◌, nat_lt, Some, None, IfSome, if◌then◌else◌};
 ghost use Rattle.abi_bits.specs.Mask.{SameFrom};
-ghost use Rattle.abi_det.specs.Roles.{union_byte, spare_byte};
 
 use crate::placed_variant::PlacedVariant;
 use crate::roles::Roles;
@@ -13,15 +12,15 @@ pub(crate) struct OwnBits<'a> {
     pub(crate) small: Walk<'a>,
 }
 
-impl PlacedVariant<'_> {
-    ghost use Rattle.abi_det.specs.Search.{IsNextBelow};
+impl PlacedVariant<'_, '_> {
+    ghost use Rattle.abi_det.specs.Search.{IsNextBelow, free_of};
 
     /// The first byte of the union, at the offset `from` or past it, in which the variant leaves bits free,
     /// and these bits. `own` tells the variant's own from there on.
     fn next_free(&self, own: &mut Walk<'_>, from: u64) -> Option<(u64, u8)>
-        requires { SameFrom (from - self.now.shift) self.now.layout.now.free own.old }
-        ensures next { IsNextBelow (union_byte self.now.layout.now self.now.shift self.now.size) self.now.size from result }
-        ensures left { SameFrom (from - self.now.shift) self.now.layout.now.free own.new }
+        requires { SameFrom (from - self.now.shift) self.now.variant.now.free own.old }
+        ensures next { IsNextBelow (free_of self.now) self.now.size from result }
+        ensures left { SameFrom (from - self.now.shift) self.now.variant.now.free own.new }
     {
         if from >= self.size {
             return None;
@@ -29,7 +28,7 @@ impl PlacedVariant<'_> {
         if from < self.shift {
             return Some((from, 255));
         }
-        let end = self.shift + self.layout.size();
+        let end = self.shift + self.variant.size();
         match own.next_entry(from - self.shift) {
             Some((offset, byte)) => self.within(offset + self.shift, byte),
             None => self.within(from.max(end), 255),
@@ -49,12 +48,12 @@ impl PlacedVariant<'_> {
 }
 
 impl<'a> Roles<'a> {
-    ghost use Rattle.abi_det.specs.Search.{IsNextBelow, AreLeft};
+    ghost use Rattle.abi_det.specs.Search.{IsNextBelow, AreLeftOf, spare_of};
 
     /// Walks over the free bits of both variants, from their first bytes on.
     pub(crate) fn own_bits(&self) -> OwnBits<'a>
-        ensures large { result.large ≡ self.now.large.now.free }
-        ensures small { result.small ≡ self.now.small.now.free }
+        ensures large { result.large ≡ self.now.large.free }
+        ensures small { result.small ≡ self.now.small.free }
     {
         OwnBits {
             large: self.large.unused().walk(),
@@ -72,9 +71,9 @@ impl<'a> Roles<'a> {
         own: &mut OwnBits<'_>,
         from: u64,
     ) -> Option<(u64, u8)>
-        requires { AreLeft self.now.large.now self.now.small.now shift own.old from }
-        ensures next { IsNextBelow (spare_byte self.now.large.now self.now.small.now shift self.now.size) self.now.size from result }
-        ensures left { IfSome result (λ e. AreLeft self.now.large.now self.now.small.now shift own.new e.0) }
+        requires { AreLeftOf self.now shift own.old from }
+        ensures next { IsNextBelow (spare_of self.now shift) self.now.size from result }
+        ensures left { IfSome result (λ e. AreLeftOf self.now shift own.new e.0) }
     {
         if self.small.size() == 0 {
             own.large.next_entry(from)
@@ -86,10 +85,10 @@ impl<'a> Roles<'a> {
     /// The same where the smaller variant is not empty. Each turn but the last two passes an entry of the
     /// larger's mask.
     fn next_shared(&self, shift: u64, own: &mut OwnBits<'_>, from: u64) -> Option<(u64, u8)>
-        requires some { 0 < self.now.small.now.size }
-        requires left { AreLeft self.now.large.now self.now.small.now shift own.old from }
-        ensures next { IsNextBelow (spare_byte self.now.large.now self.now.small.now shift self.now.size) self.now.size from result }
-        ensures left { IfSome result (λ e. AreLeft self.now.large.now self.now.small.now shift own.new e.0) }
+        requires some { 0 < self.now.small.size }
+        requires left { AreLeftOf self.now shift own.old from }
+        ensures next { IsNextBelow (spare_of self.now shift) self.now.size from result }
+        ensures left { IfSome result (λ e. AreLeftOf self.now shift own.new e.0) }
     {
         let large = self.placed_large();
         let small = self.placed_small(shift);

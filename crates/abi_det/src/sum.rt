@@ -1,22 +1,22 @@
-ghost use Rattle.std.specs.Prelude.{◌≡◌, ◌+◌, ◌≤◌, ◌<◌, ◌*◌, IsTrue, IfOk, if◌then◌else◌};
-ghost use Rattle.abi_det.specs.Roles.{larger, smaller, union_size, spare_byte, is_place};
+ghost use Rattle.std.specs.Prelude.{◌≡◌, ◌+◌, ◌≤◌, ◌<◌, IfOk, if◌then◌else◌};
+ghost use Rattle.abi_det.specs.Roles.{union_size};
 ghost use Rattle.abi_det.specs.Offers.{One};
-ghost use Rattle.abi_det.specs.SoundPlacement.{IsSoundPlacement};
-ghost use Rattle.abi_det.specs.Search.{niche_of, IsSpared};
-ghost use Rattle.abi_det.specs.Written.{written_placement, sum_frame, IsPlacement, IsWrittenWith, niched, tagged, means_ok, refusals_below};
+ghost use Rattle.abi_det.specs.SoundPlacement.{IsWellFormed, IsSoundPlacement};
+ghost use Rattle.abi_det.specs.Counted.{found_of, niche_in, IsNicheOf};
+ghost use Rattle.abi_det.specs.Written.{written_placement, sum_frame, IsPlacement, IsWrittenWith, niched, tagged};
 ghost use Rattle.abi_det.specs.Frame.{IsLawful};
 ghost use Rattle.abi_det.specs.FrameOf.{frame};
 
-use crate::determinant::{Determinant, Test};
+use crate::counted::{Found, find};
 use crate::exports::beside_tag;
 use crate::layout::Layout;
-use crate::placements::{Kind, Placement, Refusals};
+use crate::placements::Placement;
 use crate::raw_layout::RawLayout;
 use crate::roles::{Roles, sum_align, union_size};
 use crate::rules::Rules;
-use crate::search::{Found, spread};
+use crate::variant::Variant;
 use abi_bits::{ForbiddenValues, MAX_SIZE, SaturatingAddValue};
-use abi_num::{Items, MAX_ALIGN, OutOfMemory};
+use abi_num::{MAX_ALIGN, OutOfMemory};
 use std::alloc::Global;
 
 /// Where the variants of a sum of the two stand and what tells them apart: the first place of the smaller
@@ -44,22 +44,27 @@ pub fn placement_by(
     ensures front { IfOk result (λ p. p.front ≤ MAX_ALIGN) }
     ensures sound { IfOk result (λ p. IsSoundPlacement ok.now err.now p) }
 {
-    let roles = Roles::new(ok, err);
-    let patterns = roles.offered(alloc)?;
-    let large_bytes = spread(alloc, roles.large, patterns.smaller.as_slice())?;
-    let small_bytes = spread(alloc, roles.small, patterns.larger.as_slice())?;
-    let roles = roles.with_bytes(large_bytes.as_slice(), small_bytes.as_slice());
-    match roles.first_offer(alloc, rules, &patterns)? {
-        Some((place, found)) => {
-            let placement = niched(alloc, ok, err, place, found)?;
-            Ok(placement)
-        }
-        None => {
-            let refusals = roles.refusals(alloc, &patterns)?;
-            let placement = tagged(alloc, ok, err, refusals)?;
-            Ok(placement)
-        }
+    let found = found_by(alloc, rules, ok, err)?;
+    if found.determinant.is_niche_trick() {
+        let placement = niched(alloc, ok, err, found)?;
+        Ok(placement)
+    } else {
+        let placement = tagged(alloc, ok, err, found)?;
+        Ok(placement)
     }
+}
+
+/// What is found of the two. Their free bits lie open, so it costs by their free bytes and not by their sizes.
+fn found_by(alloc: Global, rules: Rules, ok: &Layout, err: &Layout) -> Result<Found, OutOfMemory>
+    ensures same { IfOk result (λ f. f ≡ found_of (written_placement rules ok.now err.now)) }
+    ensures well_formed { IfOk result (λ _. IsWellFormed ok.now × IsWellFormed err.now) }
+{
+    let ok_offered = ok.patterns(alloc)?;
+    let err_offered = err.patterns(alloc)?;
+    let ok = Variant::of(ok, ok_offered.as_slice());
+    let err = Variant::of(err, err_offered.as_slice());
+    let found = find(alloc, rules, ok, err)?;
+    Ok(found)
 }
 
 /// The layout of the sum of the two with its placement, which is that under some rules. The size that
@@ -106,61 +111,54 @@ fn raw_sum(
     })
 }
 
-/// The placement with the niche that the place of that number offers.
-fn niched(
-    alloc: Global,
-    ok: &Layout,
-    err: &Layout,
-    place: u64,
-    found: Found,
-) -> Result<Placement, OutOfMemory>
-    requires exists { IsTrue (is_place (smaller ok.now err.now) (union_size ok.now err.now) place) }
-    requires spared { IsSpared (spare_byte (larger ok.now err.now) (smaller ok.now err.now) (place * (smaller ok.now err.now).align) (union_size ok.now err.now)) found.test }
-    ensures same { IfOk result (λ p. p ≡ niched ok.now err.now place (niche_of found)) }
+/// The placement with the niche that was found.
+fn niched(alloc: Global, ok: &Layout, err: &Layout, found: Found) -> Result<Placement, OutOfMemory>
+    requires { IsNicheOf ok.now err.now found }
+    ensures same { IfOk result (λ p. p ≡ niched ok.now err.now found.place (niche_in found)) }
     ensures front { IfOk result (λ p. p.front ≤ MAX_ALIGN) }
 {
-    let roles = Roles::new(ok, err);
-    let shift = roles.shift(place);
-    let exported = roles.exported(alloc, shift, &found.test)?;
-    let Found { kind, test } = found;
+    let roles = Roles::bare(ok, err);
+    let shift = roles.shift(found.place);
+    let exported = roles.exported(alloc, shift, &found.determinant.test)?;
+    let Found {
+        place,
+        kind,
+        determinant,
+        refusals,
+    } = found;
     Ok(Placement {
         ok_shift: shift_unless(roles.ok_is_larger, shift),
         err_shift: shift_unless(!roles.ok_is_larger, shift),
         place,
         front: 0,
         kind,
-        determinant: Determinant {
-            not: means_ok(kind, roles.ok_is_larger),
-            test,
-        },
+        determinant,
         exported,
-        refusals: Items::new(alloc),
+        refusals,
     })
 }
 
 /// The placement with a tag.
-fn tagged(
-    alloc: Global,
-    ok: &Layout,
-    err: &Layout,
-    refusals: Refusals,
-) -> Result<Placement, OutOfMemory>
-    requires { refusals ≡ refusals_below (larger ok.now err.now) (smaller ok.now err.now) (union_size ok.now err.now) 8 }
+fn tagged(alloc: Global, ok: &Layout, err: &Layout, found: Found) -> Result<Placement, OutOfMemory>
+    requires { found ≡ found_of (tagged ok.now err.now) }
     ensures same { IfOk result (λ p. p ≡ tagged ok.now err.now) }
     ensures front { IfOk result (λ p. p.front ≤ MAX_ALIGN) }
 {
     let front = sum_align(ok, err);
     let exported = beside_tag(alloc, front)?;
+    let Found {
+        place,
+        kind,
+        determinant,
+        refusals,
+    } = found;
     Ok(Placement {
         ok_shift: 0,
         err_shift: 0,
-        place: 0,
+        place,
         front,
-        kind: Kind::Tag,
-        determinant: Determinant {
-            not: means_ok(Kind::Tag, Roles::new(ok, err).ok_is_larger),
-            test: Test::BitDeterminant,
-        },
+        kind,
+        determinant,
         exported,
         refusals,
     })
@@ -171,18 +169,6 @@ fn shift_unless(is_larger: bool, shift: u64) -> u64
     ensures { result ≡ (if is_larger then 0 else shift) }
 {
     if is_larger { 0 } else { shift }
-}
-
-/// Whether a niche of that kind, or a tag of 1, means `Ok`.
-fn means_ok(kind: Kind, ok_is_larger: bool) -> bool
-    ensures { result ≡ means_ok kind ok_is_larger }
-{
-    match kind {
-        Kind::SmallerPattern => ok_is_larger,
-        Kind::LargerPattern => !ok_is_larger,
-        Kind::SharedBit => !ok_is_larger,
-        Kind::Tag => !ok_is_larger,
-    }
 }
 
 /// The size in bytes of the sum of the two with that placement, whose `front` is at most 65,536 as it is in

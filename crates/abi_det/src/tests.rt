@@ -1,14 +1,16 @@
-ghost use Rattle.std.specs.Prelude.{◌≡◌, ◌≤◌, length};
+ghost use Rattle.std.specs.Prelude.{◌≡◌, ◌≤◌, ◌<◌, length};
 ghost use Rattle.abi_det.specs.State.{IsCovered};
 
 use crate::{
-    Determinant, Kind, Layout, Placement, RawLayout, Refusal, Rules, Test, check_refusal,
-    placement, placement_by, sum_layout, sum_size,
+    Determinant, Found, Kind, Layout, Placement, RawLayout, Refusal, Rules, Test, check_refusal,
+    placement, placement_by, search, sum_layout, sum_size,
 };
-use abi_bits::{BitMask, ForbiddenValues, Pattern, SaturatingAddValue};
+use abi_bits::{BitMask, ForbiddenValues, Pattern, SaturatingAddValue, Steps};
 use abi_num::Items;
 use std::alloc::{AllocError, Global};
 use std::fmt::Write;
+use std::marker::Brand;
+use std::sync::ledger::{Blank, Ledger};
 use std::test::Fail;
 
 /// What a row's variant forbids.
@@ -366,6 +368,85 @@ fn placements_of_two_layouts(rt: HostRuntime) -> Result<(), Fail> {
         let err = row.err.layout(rt.alloc())?;
         let p = placement(rt.alloc(), &ok, &err)?;
         let told = placed(rt.alloc(), &ok, &err, &p)?;
+        assert_eq!(rt; told.as_str(), row.told);
+    }
+    Ok(())
+}
+
+/// Sixteen bytes that never have 9 at offset 6.
+const NO_NINE_AT_6: Side = Side {
+    size: 16,
+    align: 1,
+    free: &[],
+    forbids: Forbids::Pattern(&[(6, 9)]),
+};
+
+/// Sixteen bytes that never have 9 at offset 7.
+const NO_NINE_AT_7: Side = Side {
+    size: 16,
+    align: 1,
+    free: &[],
+    forbids: Forbids::Pattern(&[(7, 9)]),
+};
+
+/// Eight bytes.
+const EIGHT_BYTES: Side = Side {
+    size: 8,
+    align: 1,
+    free: &[],
+    forbids: Forbids::Nothing,
+};
+
+/// What a search between the sides of the two finds.
+fn searched<L: Ledger>(
+    alloc: Global,
+    blank: Blank,
+    ok: &Layout,
+    err: &Layout,
+) -> Result<Found, Fail>
+    requires name { blank.name ≡ L.name }
+    requires parts { blank.parts ≡ L.parts }
+    requires some { 0 < blank.parts }
+{
+    let mut steps = Steps::<L>::new(blank);
+    let ok = crate::Side::of(alloc, ok)?;
+    let err = crate::Side::of(alloc, err)?;
+    let found = search(alloc, &ok, &err, &mut steps)?;
+    Ok(found)
+}
+
+fn told_found(alloc: Global, found: &Found) -> Result<String, AllocError> {
+    let place = found.place;
+    let mut out = format!(in alloc; "place {place}")?;
+    push_determinant(&mut out, found.kind, &found.determinant)?;
+    for refusal in found.refusals.as_slice() {
+        push_refusal(&mut out, refusal)?;
+    }
+    Ok(out)
+}
+
+// At place k the eight bytes cover the offsets from k to k + 7. So offset 6 is free at place 7 alone, and offset 7 at
+// none.
+static SEARCHED: [Row; 2] = [
+    Row {
+        ok: NO_NINE_AT_6,
+        err: EIGHT_BYTES,
+        told: "place 7 larger 6=9 means err",
+    },
+    Row {
+        ok: NO_NINE_AT_7,
+        err: EIGHT_BYTES,
+        told: "place 0 tag means err; refusal 0 smaller larger 7; refusal 1 smaller larger 7; refusal 2 smaller larger 7; refusal 3 smaller larger 7; refusal 4 smaller larger 7; refusal 5 smaller larger 7; refusal 6 smaller larger 7; refusal 7 smaller larger 7",
+    },
+];
+
+#[test]
+fn a_search_finds_the_first_place_or_a_refusal_of_each(rt: HostRuntime) -> Result<(), Fail> {
+    for row in &SEARCHED {
+        let ok = row.ok.layout(rt.alloc())?;
+        let err = row.err.layout(rt.alloc())?;
+        let found = searched::<Brand>(rt.alloc(), Blank::new(1), &ok, &err)?;
+        let told = told_found(rt.alloc(), &found)?;
         assert_eq!(rt; told.as_str(), row.told);
     }
     Ok(())

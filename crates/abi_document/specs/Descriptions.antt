@@ -100,7 +100,11 @@ module _ (tree : Data → Option Tree) where
     version ← version_of (get (codes "version") d)
     align ← align_of (get (codes "align") d)
     fields ← under (codes "fields") as_array d >>= fields_of
-    Some (trees.struct (record { name = name; module_name = module_name; version = version }) (branches_of fields) align)
+    Some (trees.struct (record {
+      name = name;
+      module_name = module_name;
+      version = version;
+    }) (branches_of fields) align)
 
   -- an array of a description and how many
   abbrev pub array_of : Data → Option Tree

@@ -36,7 +36,8 @@ by_name (row ∷ rows) name = if bytes_eq name row.0 then Some row.1 else by_nam
 -- what the table's rule for the key makes of the content
 abbrev pub by_key : {A : Type 0} → List (List ℕ × (Data → Option A)) → List ℕ → Data → Option A
 by_key [] key content = None
-by_key (row ∷ rows) key content = if bytes_eq key row.0 then row.1 content else by_key rows key content
+by_key (row ∷ rows) key content =
+    if bytes_eq key row.0 then row.1 content else by_key rows key content
 
 -- ---- objects
 

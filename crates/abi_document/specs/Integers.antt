@@ -1,5 +1,5 @@
--- Integers in trees of JSON: as numbers, or as texts, which are `0`, or an optional `-` and digits of which the first is
--- not 0, of a magnitude below 2^128.
+-- Integers in trees of JSON: as numbers, or as texts, which are `0`, or an optional `-` and digits of which the first
+-- is not 0, of a magnitude below 2^128.
 use Rattle.std.specs.Prelude.{ℕ, ◌+◌, ◌-◌, ◌*◌, ◌^◌, List, [], ◌∷◌, Bool, true, false, ◌&&◌, ◌==◌, nat_le, nat_lt, Option, Some, None, codes, option_map, if◌then◌else◌, ℤ, pos, negsuc, suc}
 use Rattle.std.specs.List.{list_all}
 use Rattle.std.specs.Char.{is_ascii_digit}
@@ -22,7 +22,8 @@ is_plain [] = false
 is_plain (c ∷ cs) = nat_le 49 c && nat_le c 57 && list_all is_ascii_digit cs
 
 unfoldable pub magnitude_of : List ℕ → Option ℕ
-magnitude_of text = if is_plain text && nat_lt (spelled 0 text) (2 ^ 128) then Some (spelled 0 text) else None
+magnitude_of text =
+    if is_plain text && nat_lt (spelled 0 text) (2 ^ 128) then Some (spelled 0 text) else None
 
 abbrev pub signed_by : Bool → ℕ → Signed
 signed_by negative magnitude = (magnitude, negative)
@@ -30,7 +31,9 @@ signed_by negative magnitude = (magnitude, negative)
 -- with a `-` in front, or without
 abbrev pub signed_text : List ℕ → Option Signed
 signed_text [] = None
-signed_text (c ∷ cs) = if c == 45 then option_map (signed_by true) (magnitude_of cs) else option_map (signed_by false) (magnitude_of (c ∷ cs))
+signed_text (c ∷ cs) =
+    if c == 45 then option_map (signed_by true) (magnitude_of cs)
+    else option_map (signed_by false) (magnitude_of (c ∷ cs))
 
 unfoldable pub integer_text : List ℕ → Option Signed
 integer_text text = if bytes_eq text (codes "0") then Some (0, false) else signed_text text

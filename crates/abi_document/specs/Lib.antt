@@ -7,4 +7,5 @@ pub mod Values
 pub mod Edits
 pub mod Targets
 pub mod Documents
+pub mod Made
 pub mod Laws

@@ -16,7 +16,12 @@ fields_of d = if not (has_only target_keys d) then None else do
   pointer ← under (codes "pointer") long_of d
   u64_align ← under (codes "u64_align") long_of d
   u128_align ← under (codes "u128_align") long_of d
-  Some (record { little = little; pointer = pointer; u64_align = u64_align; u128_align = u128_align })
+  Some (record {
+    little = little;
+    pointer = pointer;
+    u64_align = u64_align;
+    u128_align = u128_align;
+  })
 
 -- the name of a supported target, or four fields
 unfoldable pub target_of : Data → Option Target

@@ -66,7 +66,7 @@ fn signed_magnitude(negative: bool, digits: &str) -> Option<(u128, bool)>
 
 /// The number below 2^128 that digits spell, the first of them not 0; `None` exactly where they spell none.
 #[tactic(auto, unfolding(crate::specs::Integers::magnitude_of))]
-fn magnitude_of(digits: &str) -> Option<u128>
+pub fn magnitude_of(digits: &str) -> Option<u128>
     ensures { result ≡ magnitude_of digits.now }
 {
     if !is_plain(digits) {

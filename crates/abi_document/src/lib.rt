@@ -14,6 +14,9 @@ mod integers;
 mod job;
 pub mod laws;
 mod leaves;
+mod made;
+#[cfg(test)]
+mod made_tests;
 mod primitives;
 mod targets;
 #[cfg(test)]
@@ -27,3 +30,4 @@ mod values;
 pub use command::Command;
 pub use documents::job_of;
 pub use job::{Job, Work};
+pub use made::{made_count, made_job};

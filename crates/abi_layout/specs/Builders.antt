@@ -37,7 +37,9 @@ unfoldable pub after : Frame → ℕ → Frame
 after f end = let start : ℕ = start_after end f in record {
   size = start + f.size;
   align = f.align;
-  free = entries_below (λ at. bit_or (whole_between end start at) (byte_from start f at)) (start + f.size);
+  free =
+      entries_below (λ at. bit_or (whole_between end start at) (byte_from start f at))
+      (start + f.size);
   forbids = map (moved_item start) f.forbids;
   head = option_map (moved_pairs start) f.head;
   niches = f.niches;
@@ -54,7 +56,11 @@ unfoldable pub pair : Frame → Frame → Frame
 pair a b = let start : ℕ = start_after a.size b in record {
   size = start + b.size;
   align = max a.align b.align;
-  free = entries_below (λ at. bit_or (mask_at a.free at) (bit_or (whole_between a.size start at) (byte_from start b at))) (start + b.size);
+  free =
+      entries_below
+      (λ at. bit_or (mask_at a.free at)
+      (bit_or (whole_between a.size start at) (byte_from start b at)))
+      (start + b.size);
   forbids = a.forbids ++ map (moved_item start) b.forbids;
   head = a.head;
   niches = counted (start + b.size == a.size + b.size) (added a.niches b.niches);
@@ -66,7 +72,10 @@ unfoldable pub rounded_to : Frame → ℕ → Frame
 rounded_to f whole = let size : ℕ = next_multiple_of f.size whole in record f {
   size = size;
   align = whole;
-  free = entries_below (λ at. bit_or (mask_at f.free at) (whole_between f.size (next_multiple_of f.size f.align) at)) size;
+  free =
+      entries_below
+      (λ at. bit_or (mask_at f.free at) (whole_between f.size (next_multiple_of f.size f.align) at))
+      size;
   niches = counted (size == f.size) f.niches;
 }
 
@@ -80,13 +89,27 @@ closed_at f align = rounded_to f (max f.align align)
 
 -- bytes of which none is free or forbidden
 abbrev pub bare : ℕ → ℕ → SaturatingAddValue → Bool → Frame
-bare size align niches indirections = record { size = size; align = align; free = []; forbids = []; head = None; niches = niches; indirections = indirections }
+bare size align niches indirections =
+    record {
+      size = size;
+      align = align;
+      free = [];
+      forbids = [];
+      head = None;
+      niches = niches;
+      indirections = indirections;
+    }
 
 -- either of two in the same bytes: nothing is free or forbidden in both
 unfoldable pub overlaid : Frame → Frame → Frame
-overlaid a b = bare (next_multiple_of (max a.size b.size) (max a.align b.align)) (max a.align b.align) count.B0 (a.indirections || b.indirections)
+overlaid a b =
+    bare (next_multiple_of (max a.size b.size) (max a.align b.align)) (max a.align b.align) count.B0
+    (a.indirections || b.indirections)
 
 -- several of one in a row: one alone passes on what it has
 unfoldable pub repeated : Frame → ℕ → Frame
 repeated item len =
-    if len == 1 then item else bare (item.size * len) item.align (if len == 0 then count.B0 else count.Saturator) item.indirections
+    if len == 1
+    then item
+    else bare (item.size * len) item.align
+    (if len == 0 then count.B0 else count.Saturator) item.indirections

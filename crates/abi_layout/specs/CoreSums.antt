@@ -48,4 +48,5 @@ is_core_sum ok err =
 
 -- as large as its payload, and nothing is left for a sum around it
 abbrev pub core_frame : Frame → Frame → Frame
-core_frame ok err = bare (payload ok err).size (payload ok err).align count.B0 (ok.indirections || err.indirections)
+core_frame ok err =
+    bare (payload ok err).size (payload ok err).align count.B0 (ok.indirections || err.indirections)

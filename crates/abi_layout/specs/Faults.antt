@@ -48,34 +48,43 @@ abbrev pub form_fault : Target → ℕ → Tree → Option DescError
 form_fault target part (prim p) = unless (is_form target (form_of p)) (fault.IllFormed part)
 form_fault target part (struct label fs align) = align_fault part align
 form_fault target part (array item len) = length_fault part len
-form_fault target part (no_niches size align niches indirections) = unless (is_sized size align) (fault.IllFormed part)
+form_fault target part (no_niches size align niches indirections) =
+    unless (is_sized size align) (fault.IllFormed part)
 form_fault target part (leaf l) = unless (is_leaf l) (fault.IllFormed part)
 form_fault target part _ = None
 
 -- a sum that the compiler would not lay out so
 abbrev pub stability_fault : Rules → Target → ℕ → Tree → Option DescError
 stability_fault rules target part (core names side) =
-    unless (is_core_sum (written_frame rules target (side true)) (written_frame rules target (side false))) (fault.NotStable part)
+    unless
+    (is_core_sum (written_frame rules target (side true)) (written_frame rules target (side false)))
+    (fault.NotStable part)
 stability_fault rules target part _ = None
 
 abbrev pub own_fault : Rules → Target → ℕ → Tree → Option DescError
 own_fault rules target part t =
-    or_else (form_fault target part t) (or_else (stability_fault rules target part t) (size_fault part (written_frame rules target t)))
+    or_else (form_fault target part t)
+    (or_else (stability_fault rules target part t) (size_fault part (written_frame rules target t)))
 
 -- the same by what a part is made of
 abbrev pub prim_fault : Target → ℕ → Primitive → Option DescError
-prim_fault target part p = or_else (unless (is_form target (form_of p)) (fault.IllFormed part)) (size_fault part (prim_frame target p))
+prim_fault target part p =
+    or_else (unless (is_form target (form_of p)) (fault.IllFormed part))
+    (size_fault part (prim_frame target p))
 
 abbrev pub bytes_fault : ℕ → ℕ → ℕ → SaturatingAddValue → Bool → Option DescError
 bytes_fault part size align niches indirections =
-    or_else (unless (is_sized size align) (fault.IllFormed part)) (size_fault part (bare size align niches indirections))
+    or_else (unless (is_sized size align) (fault.IllFormed part))
+    (size_fault part (bare size align niches indirections))
 
 abbrev pub leaf_fault : ℕ → LeafDesc → Option DescError
-leaf_fault part l = or_else (unless (is_leaf l) (fault.IllFormed part)) (size_fault part (leaf_frame l))
+leaf_fault part l =
+    or_else (unless (is_leaf l) (fault.IllFormed part)) (size_fault part (leaf_frame l))
 
 -- and by the frames of its own parts
 abbrev pub struct_fault : ℕ → List Frame → Option ℕ → Option DescError
-struct_fault part fs align = or_else (align_fault part align) (size_fault part (struct_frame fs align))
+struct_fault part fs align =
+    or_else (align_fault part align) (size_fault part (struct_frame fs align))
 
 abbrev pub array_fault : ℕ → Frame → ℕ → Option DescError
 array_fault part item len = or_else (length_fault part len) (size_fault part (repeated item len))
@@ -84,7 +93,9 @@ abbrev pub sum_fault : Rules → ℕ → Frame → Frame → Option DescError
 sum_fault rules part ok err = size_fault part (written_sum rules ok err)
 
 abbrev pub core_fault : ℕ → Frame → Frame → Option DescError
-core_fault part ok err = or_else (unless (is_core_sum ok err) (fault.NotStable part)) (size_fault part (core_frame ok err))
+core_fault part ok err =
+    or_else (unless (is_core_sum ok err) (fault.NotStable part))
+    (size_fault part (core_frame ok err))
 
 -- ---- all parts
 
@@ -97,9 +108,11 @@ abbrev mutual
   pub part_fault : Rules → Target → ℕ → Tree → Option DescError
   part_fault rules target first (prim p) = own_fault rules target first (prim p)
   part_fault rules target first (struct label fs align) =
-      or_else (part_fault_in rules target first fs) (own_fault rules target (first + parts_in fs) (struct label fs align))
+      or_else (part_fault_in rules target first fs)
+      (own_fault rules target (first + parts_in fs) (struct label fs align))
   part_fault rules target first (array item len) =
-      or_else (part_fault rules target first item) (own_fault rules target (first + parts item) (array item len))
+      or_else (part_fault rules target first item)
+      (own_fault rules target (first + parts item) (array item len))
   part_fault rules target first (union side) =
       or_else (part_fault rules target first (side true))
       (or_else (part_fault rules target (first + parts (side true)) (side false))
@@ -107,19 +120,24 @@ abbrev mutual
   part_fault rules target first (sum names side) =
       or_else (part_fault rules target first (side true))
       (or_else (part_fault rules target (first + parts (side true)) (side false))
-      (own_fault rules target (first + variant_parts names (parts (side true)) (parts (side false))) (sum names side)))
+      (own_fault rules target
+      (first + variant_parts names (parts (side true)) (parts (side false))) (sum names side)))
   part_fault rules target first (core names side) =
       or_else (part_fault rules target first (side true))
       (or_else (part_fault rules target (first + parts (side true)) (side false))
-      (own_fault rules target (first + variant_parts names (parts (side true)) (parts (side false))) (core names side)))
+      (own_fault rules target
+      (first + variant_parts names (parts (side true)) (parts (side false))) (core names side)))
   part_fault rules target first (wrap kind t) =
-      or_else (part_fault rules target first t) (own_fault rules target (first + parts t) (wrap kind t))
+      or_else (part_fault rules target first t)
+      (own_fault rules target (first + parts t) (wrap kind t))
   part_fault rules target first (stable_if value condition) =
       or_else (part_fault rules target first value)
       (or_else (part_fault rules target (first + parts value) condition)
-      (own_fault rules target (first + (parts value + parts condition)) (stable_if value condition)))
+      (own_fault rules target (first + (parts value + parts condition))
+      (stable_if value condition)))
   part_fault rules target first (pointer kind t) =
-      or_else (part_fault rules target first t) (own_fault rules target (first + parts t) (pointer kind t))
+      or_else (part_fault rules target first t)
+      (own_fault rules target (first + parts t) (pointer kind t))
   part_fault rules target first (no_niches size align niches indirections) =
       own_fault rules target first (no_niches size align niches indirections)
   part_fault rules target first (leaf l) = own_fault rules target first (leaf l)
@@ -137,7 +155,9 @@ max_parts = 4096
 unfoldable pub desc_fault : Rules → Target → Tree → Option DescError
 desc_fault rules target t =
     if not (is_row target) then Some fault.BadTarget
-    else (if nat_lt max_parts (parts t) then Some fault.TooManyParts else part_fault rules target 0 t)
+    else (if nat_lt max_parts (parts t)
+    then Some fault.TooManyParts
+    else part_fault rules target 0 t)
 
 -- the fault of a description whatever the rules
 abbrev pub IsFaultByAny : Target → Tree → DescError → Type 0

@@ -11,7 +11,16 @@ folded f [] = f
 folded f (g ∷ gs) = folded (pair f g) gs
 
 abbrev pub no_bytes : Frame
-no_bytes = record { size = 0; align = 1; free = []; forbids = []; head = None; niches = count.B0; indirections = false }
+no_bytes =
+    record {
+      size = 0;
+      align = 1;
+      free = [];
+      forbids = [];
+      head = None;
+      niches = count.B0;
+      indirections = false;
+    }
 
 -- the first field's frame, with the others after it
 abbrev pub opened : List Frame → Frame

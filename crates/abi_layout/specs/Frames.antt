@@ -26,18 +26,24 @@ wrapped wrapper.OrInfallible f = f
 abbrev mutual
   pub written_frame : Rules → Target → Tree → Frame
   written_frame rules target (prim p) = prim_frame target p
-  written_frame rules target (struct label fs align) = struct_frame (written_frames rules target fs) align
+  written_frame rules target (struct label fs align) =
+      struct_frame (written_frames rules target fs) align
   written_frame rules target (array item len) = repeated (written_frame rules target item) len
-  written_frame rules target (union side) = overlaid (written_frame rules target (side true)) (written_frame rules target (side false))
+  written_frame rules target (union side) =
+      overlaid (written_frame rules target (side true)) (written_frame rules target (side false))
   written_frame rules target (sum names side) =
-      written_sum rules (written_frame rules target (side true)) (written_frame rules target (side false))
-  written_frame rules target (core names side) = core_frame (written_frame rules target (side true)) (written_frame rules target (side false))
+      written_sum rules (written_frame rules target (side true))
+      (written_frame rules target (side false))
+  written_frame rules target (core names side) =
+      core_frame (written_frame rules target (side true)) (written_frame rules target (side false))
   written_frame rules target (wrap kind t) = wrapped kind (written_frame rules target t)
   written_frame rules target (stable_if value condition) = written_frame rules target value
   written_frame rules target (pointer kind t) = row_frame (pointer_row target kind)
-  written_frame rules target (no_niches size align niches indirections) = bare size align niches indirections
+  written_frame rules target (no_niches size align niches indirections) =
+      bare size align niches indirections
   written_frame rules target (leaf l) = leaf_frame l
 
   pub written_frames : Rules → Target → Branches → List Frame
   written_frames rules target none = []
-  written_frames rules target (field name t fs) = written_frame rules target t ∷ written_frames rules target fs
+  written_frames rules target (field name t fs) =
+      written_frame rules target t ∷ written_frames rules target fs

@@ -45,8 +45,10 @@ is_in_bytes l = are_bytes l.free && list_all are_bytes (offered (leaf_items l))
 -- free bits in rising order below the size; items in bytes below the size without a free bit, patterns rising and ranges of more than one value
 abbrev pub is_leaf : LeafDesc → Bool
 is_leaf l =
-    is_sized l.size l.align && rise l.size 0 l.free && have_bits l.free && nat_le (length l.forbidden) max_items
-    && list_all (is_item l.size) (leaf_items l) && list_all (is_solid_item l.size l.free) (leaf_items l)
+    is_sized l.size l.align && rise l.size 0 l.free && have_bits l.free
+    && nat_le (length l.forbidden) max_items
+    && list_all (is_item l.size) (leaf_items l)
+    && list_all (is_solid_item l.size l.free) (leaf_items l)
     && is_in_bytes l
 
 -- what the first item offers

@@ -32,7 +32,9 @@ sum_layout_at size p = record {
 
 -- by the written placement
 abbrev pub sum_layout_of : Rules → Frame → Frame → SumLayout
-sum_layout_of rules ok err = sum_layout_at (union_size ok err + (written_placement rules ok err).front) (written_placement rules ok err)
+sum_layout_of rules ok err =
+    sum_layout_at (union_size ok err + (written_placement rules ok err).front)
+    (written_placement rules ok err)
 
 -- both variants of a core sum stand at its start; what the payload never is means the other
 abbrev pub core_layout : Frame → Frame → SumLayout
@@ -40,23 +42,29 @@ core_layout ok err = record {
   ok = 0;
   err = 0;
   size = (payload ok err).size;
-  determinant = record { «not» = not (payload_first ok err); test = test.ValueIsErr (absence ok err) };
+  determinant =
+      record { «not» = not (payload_first ok err); test = test.ValueIsErr (absence ok err) };
 }
 
 abbrev mutual
   pub shape_of : Rules → Target → Tree → Shape
   shape_of rules target (trees.prim p) = atom (scalar (scalar_of target p))
   shape_of rules target (trees.struct label fs align) =
-      fields compound.Struct (struct_frame (written_frames rules target fs) align).size (shapes_of rules target 0 fs)
+      fields compound.Struct (struct_frame (written_frames rules target fs) align).size
+      (shapes_of rules target 0 fs)
   shape_of rules target (trees.sum names side) =
       sum names (sides (shape_of rules target (side true)) (shape_of rules target (side false)))
-      (sum_layout_of rules (written_frame rules target (side true)) (written_frame rules target (side false)))
+      (sum_layout_of rules
+      (written_frame rules target (side true)) (written_frame rules target (side false)))
   shape_of rules target (trees.array item len) =
-      fields compound.Array (written_frame rules target (trees.array item len)).size (repeated len (shape_of rules target item))
-  shape_of rules target (trees.union side) = atom (raw (written_frame rules target (trees.union side)).size [] [])
+      fields compound.Array (written_frame rules target (trees.array item len)).size
+      (repeated len (shape_of rules target item))
+  shape_of rules target (trees.union side) =
+      atom (raw (written_frame rules target (trees.union side)).size [] [])
   shape_of rules target (trees.core names side) =
       sum names (sides (shape_of rules target (side true)) (shape_of rules target (side false)))
-      (core_layout (written_frame rules target (side true)) (written_frame rules target (side false)))
+      (core_layout
+      (written_frame rules target (side true)) (written_frame rules target (side false)))
   shape_of rules target (trees.wrap kind t) = shape_of rules target t
   shape_of rules target (trees.stable_if value condition) = shape_of rules target value
   shape_of rules target (trees.pointer kind t) = atom (scalar (pointer_row target kind).scalar)
@@ -68,7 +76,8 @@ abbrev mutual
   shapes_of rules target end trees.none = last
   shapes_of rules target end (trees.field name t fs) =
       field (start_after end (written_frame rules target t) - end) (shape_of rules target t)
-      (shapes_of rules target (start_after end (written_frame rules target t) + (written_frame rules target t).size) fs)
+      (shapes_of rules target
+      (start_after end (written_frame rules target t) + (written_frame rules target t).size) fs)
 
 -- an option's second variant is `()`: what `None` has
 abbrev pub is_second : Sort → Shape → Bool
@@ -81,7 +90,8 @@ abbrev mutual
   pub IsNamed : Shape → Type 0
   IsNamed (atom a) = Unit {0}
   IsNamed (fields compound n fs) = AreNamed fs
-  IsNamed (sum names side at) = ((first : Bool) → IsNamed (side first)) × (is_second names (side false) ≡ true)
+  IsNamed (sum names side at) =
+      ((first : Bool) → IsNamed (side first)) × (is_second names (side false) ≡ true)
 
   pub AreNamed : Shapes → Type 0
   AreNamed last = Unit {0}

@@ -42,7 +42,8 @@ scalar_size (scalars.Int i) = width_size i.width
 
 -- the width of a pointer
 abbrev pub pointer_width : Target → Width
-pointer_width t = if t.pointer == 2 then width.Two else (if t.pointer == 4 then width.Four else width.Eight)
+pointer_width t =
+    if t.pointer == 2 then width.Two else (if t.pointer == 4 then width.Four else width.Eight)
 
 abbrev pub kind_width : Target → IntKind → Width
 kind_width t kind.U8 = width.One
@@ -79,33 +80,57 @@ kind_align t k = width_size (kind_width t k)
 
 -- the integer of this distance from 0, below it where `negative`, has a place in the width; no 0 lies below 0
 abbrev pub in_width : Width → Bool → ℕ → Bool → Bool
-in_width w is_signed magnitude true = is_signed && (nat_lt 0 magnitude && nat_le magnitude (2 ^ (8 * width_size w - 1)))
-in_width w is_signed magnitude false = nat_lt magnitude (2 ^ (if is_signed then 8 * width_size w - 1 else 8 * width_size w))
+in_width w is_signed magnitude true =
+    is_signed && (nat_lt 0 magnitude && nat_le magnitude (2 ^ (8 * width_size w - 1)))
+in_width w is_signed magnitude false =
+    nat_lt magnitude (2 ^ (if is_signed then 8 * width_size w - 1 else 8 * width_size w))
 
 -- ---- the table
 
 abbrev pub integer : Target → IntKind → Bool → Stored → Scalar
 integer t k has_zero how =
-    scalars.Int (record { width = kind_width t k; signed = is_signed k; zero = has_zero; little = t.little; stored = how })
+    scalars.Int (record {
+      width = kind_width t k;
+      signed = is_signed k;
+      zero = has_zero;
+      little = t.little;
+      stored = how;
+    })
 
 abbrev pub plain_integer : Target → IntKind → Row
-plain_integer t k = record { scalar = integer t k true stored.Itself; align = kind_align t k; niches = count.B0; indirections = false }
+plain_integer t k =
+    record {
+      scalar = integer t k true stored.Itself;
+      align = kind_align t k;
+      niches = count.B0;
+      indirections = false;
+    }
 
 -- an integer whose bytes are never all 0
 abbrev pub restricted : Target → IntKind → Stored → Row
-restricted t k how = record { scalar = integer t k false how; align = kind_align t k; niches = count.B1; indirections = false }
+restricted t k how =
+    record {
+      scalar = integer t k false how;
+      align = kind_align t k;
+      niches = count.B1;
+      indirections = false;
+    }
 
 -- each primitive's row, by what it is
 abbrev pub row_of : Target → Form → Row
-row_of t form.Unit = record { scalar = scalars.Unit; align = 1; niches = count.B0; indirections = false }
-row_of t form.Truth = record { scalar = scalars.Bool; align = 1; niches = count.Saturator; indirections = false }
-row_of t form.Order = record { scalar = scalars.Order; align = 1; niches = count.Saturator; indirections = false }
+row_of t form.Unit =
+    record { scalar = scalars.Unit; align = 1; niches = count.B0; indirections = false }
+row_of t form.Truth =
+    record { scalar = scalars.Bool; align = 1; niches = count.Saturator; indirections = false }
+row_of t form.Order =
+    record { scalar = scalars.Order; align = 1; niches = count.Saturator; indirections = false }
 row_of t (form.Integer k) = plain_integer t k
 row_of t (form.Atomic k) = record (plain_integer t k) { align = width_size (kind_width t k) }
 row_of t (form.NonZero k) = restricted t k stored.Itself
 row_of t (form.NonMax k) = restricted t k stored.Complement
 row_of t (form.NonX k magnitude negative) = restricted t k (stored.Distance magnitude negative)
-row_of t form.Descriptor = record (plain_integer t kind.I32) { niches = count.Saturator; indirections = true }
+row_of t form.Descriptor =
+    record (plain_integer t kind.I32) { niches = count.Saturator; indirections = true }
 row_of t form.Function = record (restricted t kind.Usize stored.Itself) { indirections = true }
 
 abbrev pub prim_row : Target → Primitive → Row
@@ -124,7 +149,10 @@ is_never_null _ = true
 
 -- pointers are addresses, as integers of the pointer's size
 abbrev pub pointer_row : Target → PointerKind → Row
-pointer_row t p = if is_never_null p then row_of t form.Function else record (plain_integer t kind.Usize) { indirections = true }
+pointer_row t p =
+    if is_never_null p
+    then row_of t form.Function
+    else record (plain_integer t kind.Usize) { indirections = true }
 
 -- ---- what follows from a row
 
@@ -174,5 +202,6 @@ uint_frame t n =
 
 -- what an integer never is must be one of its kind
 abbrev pub is_form : Target → Form → Bool
-is_form t (form.NonX k magnitude negative) = in_width (kind_width t k) (is_signed k) magnitude negative
+is_form t (form.NonX k magnitude negative) =
+    in_width (kind_width t k) (is_signed k) magnitude negative
 is_form t _ = true

@@ -65,19 +65,23 @@ wrap_report wrapper.OrInfallible r = r
 -- a packed result
 abbrev pub result_report : ReportTree → ReportTree → ReportTree
 result_report ok err =
-    report (codes "Result") (codes "stabby_abi::result") (field (codes "Ok") ok (one_field (codes "Err") err)) (tyty.Enum (codes "stabby")) 1
+    report (codes "Result") (codes "stabby_abi::result")
+    (field (codes "Ok") ok (one_field (codes "Err") err)) (tyty.Enum (codes "stabby")) 1
 
 -- an option holds a result of its contents and what `None` has
 abbrev pub sum_report : Sort → ReportTree → ReportTree → ReportTree
 sum_report sort.OfResult ok err = result_report ok err
-sum_report sort.OfOption some none = holder (codes "Option") (codes "stabby_abi::option") (result_report some none)
+sum_report sort.OfOption some none =
+    holder (codes "Option") (codes "stabby_abi::option") (result_report some none)
 
 -- a sum of the compiler's has its payload as its only field
 abbrev pub core_report : Sort → Bool → ReportTree → ReportTree
 core_report sort.OfResult first r =
-    report (codes "Result") (codes "core::result") (one_field (sides (codes "Ok") (codes "Err") first) r) (tyty.Enum (codes "rust")) 0
+    report (codes "Result") (codes "core::result")
+    (one_field (sides (codes "Ok") (codes "Err") first) r) (tyty.Enum (codes "rust")) 0
 core_report sort.OfOption first r =
-    report (codes "Option") (codes "core::option") (one_field (codes "Some") r) (tyty.Enum (codes "rust")) 0
+    report (codes "Option") (codes "core::option") (one_field (codes "Some") r)
+    (tyty.Enum (codes "rust")) 0
 
 -- ---- descriptions
 
@@ -86,22 +90,31 @@ abbrev mutual
   report_tree rules target (trees.prim p) = plain (report_name target p) (report_module p) no_field
   report_tree rules target (trees.struct label fs align) =
       report label.name label.module_name (field_reports rules target fs) tyty.Struct label.version
-  report_tree rules target (trees.array item len) = holder (array_name len) stable_impls (report_tree rules target item)
-  report_tree rules target (trees.union side) = plain (codes "Union") (codes "stabby_abi::istable") no_field
+  report_tree rules target (trees.array item len) =
+      holder (array_name len) stable_impls (report_tree rules target item)
+  report_tree rules target (trees.union side) =
+      plain (codes "Union") (codes "stabby_abi::istable") no_field
   report_tree rules target (trees.sum names side) =
-      sum_report names (report_tree rules target (side true)) (report_tree rules target (side false))
+      sum_report names (report_tree rules target (side true))
+      (report_tree rules target (side false))
   report_tree rules target (trees.core names side) =
-      let first : Bool = payload_first (written_frame rules target (side true)) (written_frame rules target (side false)) in
-      core_report names first (sides (report_tree rules target (side true)) (report_tree rules target (side false)) first)
+      let first : Bool =
+      payload_first (written_frame rules target (side true))
+      (written_frame rules target (side false)) in
+      core_report names first
+      (sides (report_tree rules target (side true)) (report_tree rules target (side false)) first)
   report_tree rules target (trees.wrap kind t) = wrap_report kind (report_tree rules target t)
   report_tree rules target (trees.stable_if value condition) = report_tree rules target value
-  report_tree rules target (trees.pointer kind t) = holder (pointer_name kind) stable_impls (report_tree rules target t)
-  report_tree rules target (trees.no_niches size align niches indirections) = plain (codes "NoNiches") (codes "stabby_abi") no_field
+  report_tree rules target (trees.pointer kind t) =
+      holder (pointer_name kind) stable_impls (report_tree rules target t)
+  report_tree rules target (trees.no_niches size align niches indirections) =
+      plain (codes "NoNiches") (codes "stabby_abi") no_field
   report_tree rules target (trees.leaf l) = plain l.name l.«module» no_field
 
   pub field_reports : Rules → Target → Branches → FieldTrees
   field_reports rules target trees.none = no_field
-  field_reports rules target (trees.field name t fs) = field name (report_tree rules target t) (field_reports rules target fs)
+  field_reports rules target (trees.field name t fs) =
+      field name (report_tree rules target t) (field_reports rules target fs)
 
 -- what `Err` of each core result holds has a layout, which tells whether it is the payload
 abbrev mutual
@@ -110,10 +123,12 @@ abbrev mutual
   HasSides rules target (trees.struct label fs align) = HaveSides rules target fs
   HasSides rules target (trees.array item len) = HasSides rules target item
   HasSides rules target (trees.union side) = Unit {0}
-  HasSides rules target (trees.sum sort.OfResult side) = HasSides rules target (side true) × HasSides rules target (side false)
+  HasSides rules target (trees.sum sort.OfResult side) =
+      HasSides rules target (side true) × HasSides rules target (side false)
   HasSides rules target (trees.sum sort.OfOption side) = HasSides rules target (side true)
   HasSides rules target (trees.core sort.OfResult side) =
-      HasSides rules target (side true) × HasSides rules target (side false) × (desc_fault rules target (side false) ≡ None)
+      HasSides rules target (side true) × HasSides rules target (side false)
+      × (desc_fault rules target (side false) ≡ None)
   HasSides rules target (trees.core sort.OfOption side) = HasSides rules target (side true)
   HasSides rules target (trees.wrap kind t) = HasSides rules target t
   HasSides rules target (trees.stable_if value condition) = HasSides rules target value
@@ -123,7 +138,8 @@ abbrev mutual
 
   pub HaveSides : Rules → Target → Branches → Type 0
   HaveSides rules target trees.none = Unit {0}
-  HaveSides rules target (trees.field name t fs) = HasSides rules target t × HaveSides rules target fs
+  HaveSides rules target (trees.field name t fs) =
+      HasSides rules target t × HaveSides rules target fs
 
 -- ---- plain descriptions
 
@@ -134,7 +150,8 @@ inside_stabby = codes "stabby_abi::"
 -- neither `stabby_abi` nor a module in it
 abbrev pub is_users : List ℕ → Bool
 is_users module_name =
-    not (bytes_eq module_name (codes "stabby_abi")) && not (bytes_eq (take (length inside_stabby) module_name) inside_stabby)
+    not (bytes_eq module_name (codes "stabby_abi"))
+    && not (bytes_eq (take (length inside_stabby) module_name) inside_stabby)
 
 -- built of primitives, arrays, packed sums, and structs of users' modules without a requested alignment
 abbrev mutual
@@ -155,8 +172,10 @@ abbrev mutual
 abbrev pub PlainLaw : Type 0
 PlainLaw =
     (rules : Rules) (target : Target) (t s : Tree) → IsTrue (is_plain t) → IsTrue (is_plain s)
-    → report_tree rules target t ≡ report_tree rules target s → written_frame rules target t ≡ written_frame rules target s
+    → report_tree rules target t ≡ report_tree rules target s
+    → written_frame rules target t ≡ written_frame rules target s
 
 -- equal reports have equal identifiers on one target
 abbrev pub IdentifierLaw : Type 0
-IdentifierLaw = (target : Target) (r s : ReportTree) → r ≡ s → identifier target r ≡ identifier target s
+IdentifierLaw =
+    (target : Target) (r s : ReportTree) → r ≡ s → identifier target r ≡ identifier target s

@@ -20,7 +20,8 @@ pub record Positioned : Type 0 where
 abbrev pub positions : ℕ → List Frame → List Positioned
 positions end [] = []
 positions end (f ∷ fs) =
-    record { before = end; start = start_after end f; held = f } ∷ positions (start_after end f + f.size) fs
+    record { before = end; start = start_after end f; held = f }
+    ∷ positions (start_after end f + f.size) fs
 
 -- where the last field ends
 abbrev pub end_of : ℕ → List Frame → ℕ
@@ -51,7 +52,9 @@ is_indirect (f ∷ fs) = f.indirections || is_indirect fs
 -- the free bits at a byte: the fields' own at their places, and the bytes before each field
 abbrev pub fields_byte : List Positioned → ℕ → ℕ
 fields_byte [] at = 0
-fields_byte (p ∷ ps) at = bit_or (bit_or (whole_between p.before p.start at) (byte_from p.start p.held at)) (fields_byte ps at)
+fields_byte (p ∷ ps) at =
+    bit_or (bit_or (whole_between p.before p.start at) (byte_from p.start p.held at))
+    (fields_byte ps at)
 
 abbrev pub fields_items : List Positioned → List Item
 fields_items [] = []
@@ -70,7 +73,11 @@ struct_frame fs align =
     let size : ℕ = next_multiple_of end whole in record {
       size = size;
       align = whole;
-      free = entries_below (λ at. bit_or (fields_byte (positions 0 fs) at) (whole_between end (next_multiple_of end (fields_align fs)) at)) size;
+      free =
+          entries_below
+          (λ at. bit_or (fields_byte (positions 0 fs) at)
+          (whole_between end (next_multiple_of end (fields_align fs)) at))
+          size;
       forbids = fields_items (positions 0 fs);
       head = first_head fs;
       niches = counted (size == total_size fs) (total_count fs);

@@ -29,19 +29,25 @@ abbrev mutual
   written_sums rules target first (struct label fs align) = written_sums_in rules target first fs
   written_sums rules target first (sum names side) =
       numbered_placement (first + variant_parts names (parts (side true)) (parts (side false)))
-      (written_placement rules (written_frame rules target (side true)) (written_frame rules target (side false)))
-      ∷ (written_sums rules target first (side true) ++ written_sums rules target (first + parts (side true)) (side false))
+      (written_placement rules
+      (written_frame rules target (side true)) (written_frame rules target (side false)))
+      ∷ (written_sums rules target first (side true)
+      ++ written_sums rules target (first + parts (side true)) (side false))
   written_sums rules target first (array item len) = written_sums rules target first item
   written_sums rules target first (union side) =
-      written_sums rules target first (side true) ++ written_sums rules target (first + parts (side true)) (side false)
+      written_sums rules target first (side true)
+      ++ written_sums rules target (first + parts (side true)) (side false)
   written_sums rules target first (core names side) =
-      written_sums rules target first (side true) ++ written_sums rules target (first + parts (side true)) (side false)
+      written_sums rules target first (side true)
+      ++ written_sums rules target (first + parts (side true)) (side false)
   written_sums rules target first (wrap kind t) = written_sums rules target first t
-  written_sums rules target first (stable_if value condition) = written_sums rules target first value
+  written_sums rules target first (stable_if value condition) =
+      written_sums rules target first value
   written_sums rules target first (pointer kind t) = []
   written_sums rules target first (no_niches size align niches indirections) = []
   written_sums rules target first (leaf l) = []
 
   pub written_sums_in : Rules → Target → ℕ → Branches → List Placed
   written_sums_in rules target first none = []
-  written_sums_in rules target first (field name t fs) = written_sums rules target first t ++ written_sums_in rules target (first + parts t) fs
+  written_sums_in rules target first (field name t fs) =
+      written_sums rules target first t ++ written_sums_in rules target (first + parts t) fs

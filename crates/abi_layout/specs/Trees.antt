@@ -76,7 +76,8 @@ field_step f = (f.name, f.ty)
 abbrev pub desc_step : Desc-F Tree Named → Tree
 desc_step (Desc-F.Prim p) = prim p
 desc_step (Desc-F.Struct name «module» version fields align) =
-    struct (record { name = name; module_name = «module»; version = version }) (branches_of fields) align
+    struct (record { name = name; module_name = «module»; version = version }) (branches_of fields)
+    align
 desc_step (Desc-F.Array item len) = array item.value len
 desc_step (Desc-F.Union ok err) = union (sides ok.value err.value)
 desc_step (Desc-F.Result ok err) = result ok.value err.value
@@ -86,7 +87,8 @@ desc_step (Desc-F.CoreResult ok err) = core_result ok.value err.value
 desc_step (Desc-F.Wrap kind inner) = wrap kind inner.value
 desc_step (Desc-F.StableIf value cond) = stable_if value.value cond.value
 desc_step (Desc-F.Pointer kind pointee) = pointer kind pointee.value
-desc_step (Desc-F.NoNiches size align niches indirections) = no_niches size align niches indirections
+desc_step (Desc-F.NoNiches size align niches indirections) =
+    no_niches size align niches indirections
 desc_step (Desc-F.Leaf l) = leaf l
 
 abbrev pub tree : Desc → Tree

@@ -36,7 +36,8 @@ pub(crate) fn lay_out_sum(
     requires index { at ≤ vec_len sums.old }
     ensures faultless { IfOk result (λ _. sum_fault rules err.next ok.layout err.layout ≡ None) }
     ensures part { IfOk result (λ f. shape f.part
-        ≡ sum names (sides (shape ok.part) (shape err.part)) (sum_layout_of rules ok.layout err.layout)) }
+        ≡ sum names (sides (shape ok.part) (shape err.part))
+        (sum_layout_of rules ok.layout err.layout)) }
     ensures named { IfOk result (λ f. IsNamed (shape f.part)) }
     ensures layout { IfOk result (λ f. f.layout ≡ written_sum rules ok.layout err.layout) }
     ensures next { IfOk result (λ f. f.next ≡ err.next + 1) }
@@ -109,7 +110,7 @@ pub(crate) fn sum_part(
     err: Part,
     sum_layout: SumLayout,
 ) -> Result<Part, OutOfMemory>
-    ensures { IfOk result (λ part. shape part ≡ sum names (sides (shape ok) (shape err)) sum_layout) }
+    ensures { IfOk result (λ p. shape p ≡ sum names (sides (shape ok) (shape err)) sum_layout) }
 {
     let ok = Box::new(alloc, ok)?;
     let err = Box::new(alloc, err)?;

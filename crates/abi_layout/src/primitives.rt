@@ -1,11 +1,11 @@
-ghost use Rattle.std.specs.Prelude.{◌≡◌, ◌<◌, ◌≤◌, ◌+◌, ◌*◌, ◌^◌, IsTrue, IfOk, IfErr, None, Some, false, [], ◌∷◌};
+ghost use Rattle.std.specs.Prelude.{◌≡◌, ◌<◌, ◌≤◌, ◌+◌, IsTrue, IfOk, IfErr, None, Some, false, [], ◌∷◌};
 ghost use Rattle.abi_num.specs.Target.{is_row};
 ghost use Rattle.abi_bits.specs.Forbidden.{items, head, range};
 ghost use Rattle.abi_det.specs.Frame.{IsLawful};
 ghost use Rattle.abi_layout.specs.Faults.{IsFault, prim_fault};
 ghost use Rattle.abi_layout.specs.PartView.{shape};
 ghost use Rattle.abi_layout.specs.Shape.{scalar, atom};
-ghost use Rattle.abi_layout.specs.Prims.{width_size, pointer_width, kind_width, is_signed, kind_align, integer, plain_integer, restricted, in_width, is_form, row_of, scalar_of, is_never_null, pointer_row, zero_bytes, scalar_items, scalar_head, row_frame, prim_frame, uint_frame};
+ghost use Rattle.abi_layout.specs.Prims.{pointer_width, kind_width, is_signed, kind_align, integer, plain_integer, restricted, is_form, row_of, scalar_of, is_never_null, pointer_row, zero_bytes, scalar_items, scalar_head, row_frame, prim_frame, uint_frame};
 
 use crate::builders::bare;
 use crate::desc::PointerKind;
@@ -254,35 +254,10 @@ fn is_form(target: &Target, form: Form) -> bool
             kind,
             magnitude,
             negative,
-        } => in_width(kind.width(target), kind.is_signed(), magnitude, negative),
+        } => kind
+            .width(target)
+            .holds(kind.is_signed(), magnitude, negative),
         _ => true,
-    }
-}
-
-/// Whether the integer of this distance from 0 has a place in the width; no 0 lies below 0.
-fn in_width(width: Width, signed: bool, magnitude: u128, negative: bool) -> bool
-    ensures { result ≡ in_width width signed magnitude negative }
-{
-    let most = greatest(width);
-    if negative {
-        signed && 0 < magnitude && magnitude <= most / 2 + 1
-    } else if signed {
-        magnitude <= most / 2
-    } else {
-        magnitude <= most
-    }
-}
-
-/// The greatest number that stands in that many bytes.
-fn greatest(width: Width) -> u128
-    ensures { result + 1 ≡ 2 ^ (8 * width_size width) }
-{
-    match width {
-        Width::One => 0xff,
-        Width::Two => 0xffff,
-        Width::Four => 0xffff_ffff,
-        Width::Eight => 0xffff_ffff_ffff_ffff,
-        Width::Sixteen => 0xffff_ffff_ffff_ffff_ffff_ffff_ffff_ffff,
     }
 }
 

@@ -1,5 +1,5 @@
-ghost use Rattle.std.specs.Prelude.{◌≡◌, ◌<◌, ◌≤◌};
-ghost use Rattle.abi_layout.specs.Prims.{width_size, scalar_size};
+ghost use Rattle.std.specs.Prelude.{◌≡◌, ◌+◌, ◌*◌, ◌^◌, ◌<◌, ◌≤◌};
+ghost use Rattle.abi_layout.specs.Prims.{width_size, scalar_size, in_width};
 
 /// How a value without parts stands in its bytes.
 #[derive(Debug, Clone, Copy, PartialEq, Eq)]
@@ -73,6 +73,35 @@ impl Width {
             Width::Four => 4,
             Width::Eight => 8,
             Width::Sixteen => 16,
+        }
+    }
+
+    /// The greatest number that stands in that many bytes.
+    pub fn greatest(self) -> u128
+        ensures bits { result + 1 ≡ 2 ^ (8 * width_size self) }
+        ensures bytes { result + 1 ≡ 256 ^ width_size self }
+    {
+        match self {
+            Width::One => 0xff,
+            Width::Two => 0xffff,
+            Width::Four => 0xffff_ffff,
+            Width::Eight => 0xffff_ffff_ffff_ffff,
+            Width::Sixteen => 0xffff_ffff_ffff_ffff_ffff_ffff_ffff_ffff,
+        }
+    }
+
+    /// Whether the integer of this distance from 0 has a place in the width, `negative` where it lies below 0; no 0
+    /// lies below 0.
+    pub fn holds(self, signed: bool, magnitude: u128, negative: bool) -> bool
+        ensures { result ≡ in_width self signed magnitude negative }
+    {
+        let most = self.greatest();
+        if negative {
+            signed && 0 < magnitude && magnitude <= most / 2 + 1
+        } else if signed {
+            magnitude <= most / 2
+        } else {
+            magnitude <= most
         }
     }
 }

@@ -151,7 +151,7 @@ fn lay_out_aside(
 ) -> Result<u32, DescError>
     requires row { IsTrue (is_row target.now) }
     requires room { first + parts (tree desc.now) ≤ MAX_PARTS }
-    ensures faultless { IfOk result (λ _. part_fault rules target.now first (tree desc.now) ≡ None) }
+    ensures faultless { OnOk result (part_fault rules target.now first (tree desc.now) ≡ None) }
     ensures next { IfOk result (λ next. next ≡ first + parts (tree desc.now)) }
     ensures err { IfErr result (IsFault (part_fault rules target.now first (tree desc.now))) }
 {

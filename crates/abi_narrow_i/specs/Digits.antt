@@ -9,11 +9,18 @@ low_digits digits (negsuc n) = 2 ^ digits - suc (n % 2 ^ digits)
 
 -- the number with these digits, of which the first is the sign
 abbrev pub sign_extended : ℕ → ℕ → ℤ
-sign_extended digits low = cond (nat_lt low (2 ^ (digits - 1))) (pos low) (negsuc (2 ^ digits - suc low))
+sign_extended digits low =
+    cond (nat_lt low (2 ^ (digits - 1))) (pos low) (negsuc (2 ^ digits - suc low))
 
--- the digits that both have, and those that one or both have; 0 where the type does not hold numbers of that width
-abbrev pub common : Width → ℕ → ℤ → ℤ → ℤ
-common w digits x y = cond (has_width w digits) (sign_extended digits (bit_and (low_digits digits x) (low_digits digits y))) (pos 0)
+-- this number, or 0 where the type does not hold numbers of that width
+abbrev pub held : Width → ℕ → ℤ → ℤ
+held w digits z = cond (has_width w digits) z (pos 0)
+
+-- the digits that both have, and those that one or both have
+abbrev pub both : Width → ℕ → ℤ → ℤ → ℤ
+both w digits x y =
+    held w digits (sign_extended digits (bit_and (low_digits digits x) (low_digits digits y)))
 
 abbrev pub either : Width → ℕ → ℤ → ℤ → ℤ
-either w digits x y = cond (has_width w digits) (sign_extended digits (bit_or (low_digits digits x) (low_digits digits y))) (pos 0)
+either w digits x y =
+    held w digits (sign_extended digits (bit_or (low_digits digits x) (low_digits digits y)))

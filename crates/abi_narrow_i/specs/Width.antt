@@ -21,6 +21,12 @@ greatest digits = pos (2 ^ (digits - 1) - 1)
 abbrev pub least : ℕ → ℤ
 least digits = negsuc (2 ^ (digits - 1) - 1)
 
--- z is one of the numbers of that many digits, or 0 where the type does not hold them
+-- z is one of the numbers of that many digits
+abbrev pub IsWithin : ℕ → ℤ → Type 0
+IsWithin digits z = (least digits ≤ℤ z) × (z ≤ℤ greatest digits)
+
+-- the same, or 0 where the type does not hold them
 abbrev pub InRange : Width → ℕ → ℤ → Type 0
-InRange w digits z = (cond (has_width w digits) (least digits) (pos 0) ≤ℤ z) × (z ≤ℤ cond (has_width w digits) (greatest digits) (pos 0))
+InRange w digits z =
+    (cond (has_width w digits) (least digits) (pos 0) ≤ℤ z)
+    × (z ≤ℤ cond (has_width w digits) (greatest digits) (pos 0))

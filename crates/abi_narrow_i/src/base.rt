@@ -1,6 +1,6 @@
-ghost use Rattle.std.specs.Prelude.{◌≡◌, ℤ, IfSome, false, FitsSigned};
-ghost use Rattle.std.specs.Fmt.{WritesOnOk, digits};
+ghost use Rattle.std.specs.Prelude.{◌≡◌, ℤ, FitsSigned};
 ghost use Rattle.std.specs.Int.{Width, w8, w16, w32, w64, w128};
+ghost use Rattle.abi_narrow_i.specs.Texts.{WritesWord};
 ghost use Rattle.abi_narrow_i.specs.Width.{has_width};
 
 use std::fmt::{self, Binary, Debug, Display, Formatter, HasDigits, LowerHex, Octal, UpperHex};
@@ -28,15 +28,15 @@ pub trait Base: Copy + Ord + Hash + Debug + Display + HasDigits + UpperHex {
 
     /// Writes it as `LowerHex` does.
     fn write_hex<W: fmt::Write>(&self, f: &mut Formatter<W>) -> fmt::Result
-        ensures { IfSome (Self.word self.now) (λ n. WritesOnOk W.write_str_gives f.old result (digits 16 false n) f.new) };
+        ensures { WritesWord W.write_str_gives 16 (Self.word self.now) f.old result f.new };
 
     /// Writes it as `Octal` does.
     fn write_octal<W: fmt::Write>(&self, f: &mut Formatter<W>) -> fmt::Result
-        ensures { IfSome (Self.word self.now) (λ n. WritesOnOk W.write_str_gives f.old result (digits 8 false n) f.new) };
+        ensures { WritesWord W.write_str_gives 8 (Self.word self.now) f.old result f.new };
 
     /// Writes it as `Binary` does.
     fn write_binary<W: fmt::Write>(&self, f: &mut Formatter<W>) -> fmt::Result
-        ensures { IfSome (Self.word self.now) (λ n. WritesOnOk W.write_str_gives f.old result (digits 2 false n) f.new) };
+        ensures { WritesWord W.write_str_gives 2 (Self.word self.now) f.old result f.new };
 }
 
 impl Base for i8 {

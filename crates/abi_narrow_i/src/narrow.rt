@@ -1,6 +1,6 @@
-ghost use Rattle.std.specs.Prelude.{◌≡◌, ◌↔◌, ◌≤ℤ◌, pos, IsTrue, IsSome, IfSome, ⊤};
-ghost use Rattle.abi_narrow_i.specs.Digits.{common, either};
-ghost use Rattle.abi_narrow_i.specs.Width.{has_width, greatest, least, InRange};
+ghost use Rattle.std.specs.Prelude.{◌≡◌, ◌↔◌, pos, IsTrue, IsSome, IfSome, ⊤};
+ghost use Rattle.abi_narrow_i.specs.Digits.{both, either};
+ghost use Rattle.abi_narrow_i.specs.Width.{has_width, greatest, least, IsWithin, InRange};
 
 use crate::base::Base;
 use crate::digits::{greatest, least, low_digits, sign_extended};
@@ -8,7 +8,8 @@ use std::alloc::AllocError;
 use std::marker::Model;
 use std::ops::{BitAnd, BitAndAssign, BitOr, BitOrAssign};
 
-/// A number of `N` binary digits, the first of which is its sign, kept in a `B`; 0 where `B` does not hold numbers of that width.
+/// A number of `N` binary digits, the first of which is its sign, kept in a `B`; 0 where `B` does not hold numbers of
+/// that width.
 #[derive(Copy, PartialEq, Eq, PartialOrd, Ord, Hash)]
 pub struct Narrow<B: Base, const N: u32> {
     value: B,
@@ -29,7 +30,7 @@ impl<B: Base, const N: u32> Narrow<B, N> {
     #[tactic(auto, using(crate::proofs::Ranges::digits_bound, crate::proofs::Ranges::digits_some))]
     pub fn new(value: B) -> Option<Self>
         requires { IsTrue (has_width B.width N) }
-        ensures range { IsSome result ↔ ((least N ≤ℤ B.number value) × (B.number value ≤ℤ greatest N)) }
+        ensures range { IsSome result ↔ IsWithin N (B.number value) }
         ensures value { IfSome result (λ x. x ≡ value) }
     {
         let n = value.widen();
@@ -75,8 +76,8 @@ impl<B: Base, const N: u32> Narrow<B, N> {
     }
 
     #[tactic(auto, using(crate::proofs::Ranges::digits_bound, crate::proofs::Ranges::digits_some, std::proofs::lemmas::Nat::and_le_l))]
-    fn common(self, other: B) -> Self
-        ensures { B.number result ≡ common B.width N (B.number self) (B.number other) }
+    fn both(self, other: B) -> Self
+        ensures { B.number result ≡ both B.width N (B.number self) (B.number other) }
     {
         if B::holds(N) {
             let low = low_digits(self.value.widen(), N) & low_digits(other.widen(), N);
@@ -120,36 +121,36 @@ impl<B: Base, const N: u32> Default for Narrow<B, N> {
 impl<B: Base, const N: u32> BitAnd<B> for Narrow<B, N> {
     type Output = Narrow<B, N>;
 
-    ghost bitand_gives = { λ x y r. B.number r ≡ common B.width N (B.number x) (B.number y) };
+    ghost bitand_gives = { λ x y r. B.number r ≡ both B.width N (B.number x) (B.number y) };
 
     fn bitand(self, rhs: B) -> Narrow<B, N> {
-        self.common(rhs)
+        self.both(rhs)
     }
 }
 
 impl<B: Base, const N: u32> BitAnd<Narrow<B, N>> for Narrow<B, N> {
     type Output = Narrow<B, N>;
 
-    ghost bitand_gives = { λ x y r. B.number r ≡ common B.width N (B.number x) (B.number y) };
+    ghost bitand_gives = { λ x y r. B.number r ≡ both B.width N (B.number x) (B.number y) };
 
     fn bitand(self, rhs: Narrow<B, N>) -> Narrow<B, N> {
-        self.common(rhs.value)
+        self.both(rhs.value)
     }
 }
 
 impl<B: Base, const N: u32> BitAndAssign<B> for Narrow<B, N> {
-    ghost bitand_assign_gives = { λ x y r. B.number r ≡ common B.width N (B.number x) (B.number y) };
+    ghost bitand_assign_gives = { λ x y r. B.number r ≡ both B.width N (B.number x) (B.number y) };
 
     fn bitand_assign(&mut self, rhs: B) {
-        *self = self.common(rhs);
+        *self = self.both(rhs);
     }
 }
 
 impl<B: Base, const N: u32> BitAndAssign<Narrow<B, N>> for Narrow<B, N> {
-    ghost bitand_assign_gives = { λ x y r. B.number r ≡ common B.width N (B.number x) (B.number y) };
+    ghost bitand_assign_gives = { λ x y r. B.number r ≡ both B.width N (B.number x) (B.number y) };
 
     fn bitand_assign(&mut self, rhs: Narrow<B, N>) {
-        *self = self.common(rhs.value);
+        *self = self.both(rhs.value);
     }
 }
 

@@ -82,7 +82,7 @@ impl<B: Base, const N: u32> Narrow<B, N> {
         self.value.widen()
     }
 
-    fn common(self, other: B) -> Self
+    fn both(self, other: B) -> Self
         ensures { B.number result ≡ bit_and (B.number self) (B.number other) }
     {
         Self::kept(self.widen() & other.widen())
@@ -135,7 +135,7 @@ impl<B: Base, const N: u32> BitAnd<B> for Narrow<B, N> {
     ghost bitand_gives = { λ x y r. B.number r ≡ bit_and (B.number x) (B.number y) };
 
     fn bitand(self, rhs: B) -> Narrow<B, N> {
-        self.common(rhs)
+        self.both(rhs)
     }
 }
 
@@ -145,7 +145,7 @@ impl<B: Base, const N: u32> BitAnd<Narrow<B, N>> for Narrow<B, N> {
     ghost bitand_gives = { λ x y r. B.number r ≡ bit_and (B.number x) (B.number y) };
 
     fn bitand(self, rhs: Narrow<B, N>) -> Narrow<B, N> {
-        self.common(rhs.value)
+        self.both(rhs.value)
     }
 }
 
@@ -153,7 +153,7 @@ impl<B: Base, const N: u32> BitAndAssign<B> for Narrow<B, N> {
     ghost bitand_assign_gives = { λ x y r. B.number r ≡ bit_and (B.number x) (B.number y) };
 
     fn bitand_assign(&mut self, rhs: B) {
-        *self = self.common(rhs);
+        *self = self.both(rhs);
     }
 }
 
@@ -161,7 +161,7 @@ impl<B: Base, const N: u32> BitAndAssign<Narrow<B, N>> for Narrow<B, N> {
     ghost bitand_assign_gives = { λ x y r. B.number r ≡ bit_and (B.number x) (B.number y) };
 
     fn bitand_assign(&mut self, rhs: Narrow<B, N>) {
-        *self = self.common(rhs.value);
+        *self = self.both(rhs.value);
     }
 }
 

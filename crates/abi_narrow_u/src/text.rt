@@ -1,5 +1,4 @@
-ghost use Rattle.std.specs.Prelude.{IfSome, false};
-ghost use Rattle.std.specs.Fmt.{WritesOnOk, digits};
+ghost use Rattle.abi_narrow_u.specs.Texts.{WritesWord};
 
 use crate::base::Base;
 use crate::narrow::Narrow;
@@ -33,7 +32,7 @@ impl<B: Base, const N: u32> HasDigits for Narrow<B, N> {
 
 impl<B: Base, const N: u32> LowerHex for Narrow<B, N> {
     fn fmt<W: fmt::Write>(&self, f: &mut Formatter<W>) -> fmt::Result
-        ensures { IfSome (B.word self.now) (λ n. WritesOnOk W.write_str_gives f.old result (digits 16 false n) f.new) }
+        ensures { WritesWord W.write_str_gives 16 (B.word self.now) f.old result f.new }
     {
         self.get().write_hex(f)
     }
@@ -47,7 +46,7 @@ impl<B: Base, const N: u32> UpperHex for Narrow<B, N> {
 
 impl<B: Base, const N: u32> Octal for Narrow<B, N> {
     fn fmt<W: fmt::Write>(&self, f: &mut Formatter<W>) -> fmt::Result
-        ensures { IfSome (B.word self.now) (λ n. WritesOnOk W.write_str_gives f.old result (digits 8 false n) f.new) }
+        ensures { WritesWord W.write_str_gives 8 (B.word self.now) f.old result f.new }
     {
         self.get().write_octal(f)
     }
@@ -55,7 +54,7 @@ impl<B: Base, const N: u32> Octal for Narrow<B, N> {
 
 impl<B: Base, const N: u32> Binary for Narrow<B, N> {
     fn fmt<W: fmt::Write>(&self, f: &mut Formatter<W>) -> fmt::Result
-        ensures { IfSome (B.word self.now) (λ n. WritesOnOk W.write_str_gives f.old result (digits 2 false n) f.new) }
+        ensures { WritesWord W.write_str_gives 2 (B.word self.now) f.old result f.new }
     {
         self.get().write_binary(f)
     }

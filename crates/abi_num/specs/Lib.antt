@@ -1,5 +1,6 @@
 pub mod Alignment
 pub mod Bits
+pub mod Lists
 pub mod Target
 pub mod Unsigned
 pub mod formers

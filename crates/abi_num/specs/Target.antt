@@ -30,7 +30,9 @@ same_bool false false = true
 
 -- equal in all four fields
 abbrev pub same_target : Target → Target → Bool
-same_target s t = same_bool s.little t.little && s.pointer == t.pointer && s.u64_align == t.u64_align && s.u128_align == t.u128_align
+same_target s t =
+    same_bool s.little t.little && s.pointer == t.pointer
+    && s.u64_align == t.u64_align && s.u128_align == t.u128_align
 
 -- some row has these four fields
 abbrev pub is_row : Target → Bool
@@ -38,4 +40,5 @@ is_row t = list_any (λ row. same_target row.1 t) target_rows
 
 -- the eight bytes that tell an architecture: pointers in four roles, the alignment of u128, and 1 for big endian
 abbrev pub arch_info : Target → List ℕ
-arch_info t = 0 ∷ t.pointer ∷ t.pointer ∷ t.pointer ∷ t.pointer ∷ t.u128_align ∷ cond t.little 0 1 ∷ 0 ∷ []
+arch_info t =
+    0 ∷ t.pointer ∷ t.pointer ∷ t.pointer ∷ t.pointer ∷ t.u128_align ∷ cond t.little 0 1 ∷ 0 ∷ []

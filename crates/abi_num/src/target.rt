@@ -61,7 +61,10 @@ impl Target {
 }
 
 fn row(little: bool, pointer: u64, u64_align: u64, u128_align: u64) -> Target
-    ensures { result ≡ record { little = little; pointer = pointer; u64_align = u64_align; u128_align = u128_align } }
+    ensures little { result.little ≡ little }
+    ensures pointer { result.pointer ≡ pointer }
+    ensures u64_align { result.u64_align ≡ u64_align }
+    ensures u128_align { result.u128_align ≡ u128_align }
 {
     Target {
         little,

@@ -1,5 +1,8 @@
 -- From what the functions compute to what the calls of a plan promise. q is the plan as it is kept, p as contracts see it.
-use Rattle.std.proofs.Common.{◌≡◌, ◌↔◌, ℕ, ◌≤◌, List, None, length, Bool, true, false, ap, ◌∙◌, sym, subst, arith}
+use Rattle.std.specs.Prelude.{nat_lt, min}
+use Rattle.std.proofs.Common.{◌≡◌, ◌↔◌, ℕ, ◌+◌, ◌≤◌, List, None, length, Bool, true, false, refl, ap, ◌∙◌, sym, subst, inl, inr, arith}
+use Rattle.std.proofs.lemmas.Bool.{cases_lt}
+use Rattle.std.proofs.lemmas.Bool.Decides.{nat_tests}
 use Rattle.abi_num.specs.declared.target.Target.{Target}
 use Rattle.abi_det.specs.Offers.{Rules}
 use Rattle.abi_layout.specs.Faults.{desc_fault}
@@ -13,12 +16,13 @@ use Rattle.abi_pack.specs.Packed.{packed}
 use Rattle.abi_pack.specs.Packing.{Packing, IsPlanOf, OfPlan, IsSomePlan}
 use Rattle.abi_pack.specs.Plain.{Plain}
 use Rattle.abi_pack.specs.PlanShape.{IsPlanShape}
-use Rattle.abi_pack.specs.Reading.{IsShown}
+use Rattle.abi_pack.specs.Counting.{counted, values_in}
+use Rattle.abi_pack.specs.Reading.{IsShown, TellsMany}
 use Rattle.abi_pack.specs.Shows as of_shape
 use Rattle.abi_pack.specs.ValueShown.{is_shown, value_shown}
 use Rattle.abi_pack.specs.Values.{fits, Shows, IsLong, IsImageOf}
 use Rattle.abi_pack.proofs.Lawful.{faultless_covered, faultless_small, faultless_fits, faultless_shows, packed_image}
-use Rattle.abi_pack.proofs.ShownValues.{shown_value, shown_where}
+use Rattle.abi_pack.proofs.ShownValues.{shown_value, shown_where, told_where}
 use Rattle.abi_pack.proofs.TreeValues.{from_zero, same_size}
 
 -- the part of a description without a fault keeps what every plan's keeps
@@ -81,6 +85,24 @@ plan_shown q p bs e bytes long shown rules target t of =
     let there : is_shown (shape q.part) f ≡ true = rw (from_zero f) at (sym shown) in
     let v : Plain = value_shown (shape q.part) f in
     ((plan_length q p bs rules target t e of).0 long, (v, (plan_shows q p v f rules target t e of bytes).0 (shown_value (shape q.part) f bytes there)))
+
+pub plan_long : (q p : Packing) (bs : List ℕ) → q ≡ p → length bs ≡ size (shape q.part) → OfPlan p (λ rules target t. IsLong rules target t bs)
+plan_long q p bs e long rules target t of = (plan_length q p bs rules target t e of).0 long
+
+past_least : (n : ℕ) → nat_lt 8388608 (min (0 + n) 8388609) ≡ nat_lt 8388608 n
+past_least n = elim (cases_lt 8388608 n) [
+  | inl lt ↦ grind (arith, nat_tests)
+  | inr le ↦ grind (arith, nat_tests)
+]
+
+-- what is counted tells whether there are too many values in the one that is shown
+pub plan_many : (q p : Packing) (bs : List ℕ) (n : ℕ) (r : Bool) → q ≡ p → AreBytes (bytes_of bs) → n ≡ counted 0 (shape q.part) (seen_from 0 (bytes_of bs)) → r ≡ nat_lt 8388608 n
+    → OfPlan p (λ rules target t. TellsMany rules target t bs r)
+plan_many q p bs n r e bytes is told rules target t of v shown =
+    let f : ByteMap = bytes_of bs in
+    let value : v ≡ value_shown (shape q.part) f = told_where (shape q.part) v f ((plan_shows q p v f rules target t e of bytes).1 shown) in
+    let number : n ≡ min (0 + values_in v) 8388609 = is ∙ rw (from_zero f, value) refl in
+    told ∙ ap (nat_lt 8388608) number ∙ past_least (values_in v)
 
 pub plan_other_length : (q p : Packing) (bs : List ℕ) → q ≡ p → (length bs ≡ size (shape q.part) → ⊥) → OfPlan p (λ rules target t. IsLong rules target t bs → ⊥)
 plan_other_length q p bs e other rules target t of long = other ((plan_length q p bs rules target t e of).1 long)

@@ -6,7 +6,7 @@ use Rattle.abi_layout.specs.Prims.{scalar_size}
 use Rattle.abi_layout.specs.Shape.{Atom, scalar, raw}
 use Rattle.abi_pack.specs.ByteMap.{ByteMap, has}
 use Rattle.abi_pack.specs.Plain.{Plain, bytes, bytes_in}
-use Rattle.abi_pack.specs.Raw.{are_raw, match_none, cleared}
+use Rattle.abi_pack.specs.Raw.{are_raw, match_none, cleared, bytes_shown}
 use Rattle.abi_pack.specs.Scalars.{is_value, stored, is_legal, scalar_shown, ShowsScalar}
 use Rattle.std.specs.List.{list_all}
 
@@ -27,7 +27,7 @@ is_legal_atom (raw n free its) f = match_none its f
 -- the value that legal bytes show
 abbrev pub atom_shown : Atom → ByteMap → Plain
 atom_shown (scalar c) f = scalar_shown c f
-atom_shown (raw n free its) f = bytes (cleared free n f)
+atom_shown (raw n free its) f = bytes_shown free n f
 
 abbrev pub ShowsAtom : Atom → Plain → ByteMap → Type 0
 ShowsAtom (scalar c) v f = ShowsScalar c v f

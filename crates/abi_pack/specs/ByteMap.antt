@@ -11,6 +11,10 @@ ByteMap = ℕ → ℕ
 abbrev pub bytes_of : List ℕ → ByteMap
 bytes_of xs = λ i. slice_index xs i
 
+-- the bytes from `at` on
+abbrev pub seen_in : List ℕ → ℕ → ByteMap
+seen_in xs at = seen_from at (slice_index xs)
+
 abbrev pub AreBytes : ByteMap → Type 0
 AreBytes f = (i : ℕ) → f i < 256
 

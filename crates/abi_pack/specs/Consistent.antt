@@ -13,9 +13,12 @@ use Rattle.abi_layout.specs.declared.part.SumLayout.{SumLayout}
 -- it is not, no value of the variant has what it tests
 pub record IsSide (s : Shape) (first : Bool) (at : SumLayout) : Type 0 where
   pub inside : start_of at first + size s ≤ at.size
-  pub imposed : is_imposed at.determinant.test (sign_of at first) ≡ true → (v : Plain) (i k : ℕ) → k < 8
-      → is_tested at.determinant.test i k ≡ true → held_at (start_of at first) (size s) (λ j l. holds s v j l) i k ≡ false
-  pub forbids : is_imposed at.determinant.test (sign_of at first) ≡ false → (v : Plain) (f : ByteMap)
+  pub imposed : is_imposed at.determinant.test (sign_of at first) ≡ true → (v : Plain) (i k : ℕ)
+      → k < 8
+      → is_tested at.determinant.test i k ≡ true
+      → held_at (start_of at first) (size s) (λ j l. holds s v j l) i k ≡ false
+  pub forbids : is_imposed at.determinant.test (sign_of at first) ≡ false
+      → (v : Plain) (f : ByteMap)
       → test_holds at.determinant.test f ≡ true → Shows s v (seen_from (start_of at first) f) → ⊥
 
 pub record IsSumLayout (side : Bool → Shape) (at : SumLayout) : Type 0 where
@@ -26,7 +29,8 @@ abbrev mutual
   pub IsConsistent : Shape → Type 0
   IsConsistent (atom a) = IsAtom a
   IsConsistent (fields compound n fs) = AreConsistent fs × (size_in fs ≤ n)
-  IsConsistent (sum names side at) = ((first : Bool) → IsConsistent (side first)) × IsSumLayout side at
+  IsConsistent (sum names side at) =
+      ((first : Bool) → IsConsistent (side first)) × IsSumLayout side at
 
   pub AreConsistent : Shapes → Type 0
   AreConsistent last = Unit {0}

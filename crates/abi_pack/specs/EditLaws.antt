@@ -14,18 +14,30 @@ use Rattle.abi_pack.specs.declared.step.Step.{Step}
 
 -- no second byte string is the edit of bytes that show a value
 abbrev pub OneEditLaw : Type 0
-OneEditLaw = (rules : Rules) (target : Target) (t : Tree) (v : Plain) (path : List Step) (w : Plain) (old bs cs : List ℕ) → Faultless rules target t
-    → IsLong rules target t old → AreBytes (bytes_of old) → Shows rules target t v (bytes_of old) → edit_fault rules target t v path w ≡ None
+OneEditLaw =
+    (rules : Rules) (target : Target) (t : Tree) (v : Plain) (path : List Step) (w : Plain)
+    (old bs cs : List ℕ)
+    → Faultless rules target t
+    → IsLong rules target t old → AreBytes (bytes_of old) → Shows rules target t v (bytes_of old)
+    → edit_fault rules target t v path w ≡ None
     → IsEdited rules target t v path w old bs → IsEdited rules target t v path w old cs → bs ≡ cs
 
 -- canonical bytes become the canonical bytes of the edited value
 abbrev pub CanonicalEditLaw : Type 0
-CanonicalEditLaw = (rules : Rules) (target : Target) (t : Tree) (v : Plain) (path : List Step) (w : Plain) (old new : List ℕ) → Faultless rules target t
-    → IsImageOf rules target t v old → edit_fault rules target t v path w ≡ None → IsEdited rules target t v path w old new
+CanonicalEditLaw =
+    (rules : Rules) (target : Target) (t : Tree) (v : Plain) (path : List Step) (w : Plain)
+    (old new : List ℕ)
+    → Faultless rules target t
+    → IsImageOf rules target t v old → edit_fault rules target t v path w ≡ None
+    → IsEdited rules target t v path w old new
     → IsImageOf rules target t (edited rules target t v path w) new
 
 -- what edits compute is the edit of bytes that show a value, one after the other, and nothing else is
 abbrev pub EditedBytesLaw : Type 0
-EditedBytesLaw = (rules : Rules) (target : Target) (t : Tree) (v : Plain) (es : List PlainEdit) (old new : List ℕ) → Faultless rules target t
-    → IsLong rules target t old → AreBytes (bytes_of old) → Shows rules target t v (bytes_of old) → edits_fault rules target t v 0 es ≡ None
+EditedBytesLaw =
+    (rules : Rules) (target : Target) (t : Tree) (v : Plain) (es : List PlainEdit)
+    (old new : List ℕ)
+    → Faultless rules target t
+    → IsLong rules target t old → AreBytes (bytes_of old) → Shows rules target t v (bytes_of old)
+    → edits_fault rules target t v 0 es ≡ None
     → AreEdited rules target t v es old new ↔ (new ≡ edited_bytes rules target t es old)

@@ -49,12 +49,15 @@ item_at t start (more v vs) (suc n) = item_at t start vs n
 
 -- a step into a value of the description; at a wrapper it acts on what is wrapped
 abbrev pub entered : Rules → Target → Tree → Plain → Step → Entered
-entered rules target (struct label fs align) (list vs) (step.Field n) = field_at fs (positions 0 (written_frames rules target fs)) vs n
+entered rules target (struct label fs align) (list vs) (step.Field n) =
+    field_at fs (positions 0 (written_frames rules target fs)) vs n
 entered rules target (array item len) (list vs) (step.Item n) =
     if nat_lt n len then item_at item (n * (written_frame rules target item).size) vs n else nothing
 entered rules target (sum names side) (variant kind first v) s =
-    in_variant (variant_entered names s) first (part (side first) (variant_start (placement_of rules target side) first) v)
-entered rules target (core names side) (variant kind first v) s = in_variant (variant_entered names s) first (part (side first) 0 v)
+    in_variant (variant_entered names s) first
+    (part (side first) (variant_start (placement_of rules target side) first) v)
+entered rules target (core names side) (variant kind first v) s =
+    in_variant (variant_entered names s) first (part (side first) 0 v)
 entered rules target (wrap kind t) v s = entered rules target t v s
 entered rules target (stable_if value condition) v s = entered rules target value v s
 entered rules target _ v s = nothing
@@ -69,7 +72,8 @@ fault_in rest (part t start v) = rest t v
 
 abbrev pub edit_fault : Rules → Target → Tree → Plain → List Step → Plain → Option EditError
 edit_fault rules target t v [] w = if fits rules target t w then None else Some error.WrongPart
-edit_fault rules target t v (s ∷ path) w = fault_in (λ t' v'. edit_fault rules target t' v' path w) (entered rules target t v s)
+edit_fault rules target t v (s ∷ path) w =
+    fault_in (λ t' v'. edit_fault rules target t' v' path w) (entered rules target t v s)
 
 -- the bytes of a part: where it starts, and how many they are
 pub record Range : Type 0 where
@@ -87,7 +91,8 @@ range_in rest (part t start v) = record { start = start + (rest t v).start; size
 -- the bytes of the part at a path
 abbrev pub range_of : Rules → Target → Tree → Plain → List Step → Range
 range_of rules target t v [] = record { start = 0; size = (written_frame rules target t).size }
-range_of rules target t v (s ∷ path) = range_in (λ t' v'. range_of rules target t' v' path) (entered rules target t v s)
+range_of rules target t v (s ∷ path) =
+    range_in (λ t' v'. range_of rules target t' v' path) (entered rules target t v s)
 
 -- ---- the edited value
 
@@ -111,7 +116,9 @@ edited_in rest (part t start v) v' = rest t v
 -- the value with w at the path
 abbrev pub edited : Rules → Target → Tree → Plain → List Step → Plain → Plain
 edited rules target t v [] w = w
-edited rules target t v (s ∷ path) w = replaced v s (edited_in (λ t' v'. edited rules target t' v' path w) (entered rules target t v s) v)
+edited rules target t v (s ∷ path) w =
+    replaced v s
+    (edited_in (λ t' v'. edited rules target t' v' path w) (entered rules target t v s) v)
 
 -- ---- the edited bytes
 
@@ -119,20 +126,26 @@ abbrev pub IsOutside : Range → ℕ → Type 0
 IsOutside r i = (i < r.start) ⊎ (r.start + r.size ≤ i)
 
 -- the bytes agree with the old ones outside the range, show the edited value, and have 0 at every bit of the range that it does not hold
-pub record IsEdited (rules : Rules) (target : Target) (t : Tree) (v : Plain) (path : List Step) (w : Plain) (old new : List ℕ) : Type 0 where
+pub record IsEdited (rules : Rules) (target : Target) (t : Tree) (v : Plain) (path : List Step)
+    (w : Plain) (old new : List ℕ) : Type 0 where
   pub long : length new ≡ length old
   pub bytes : AreBytes (bytes_of new)
-  pub outside : (i : ℕ) → IsOutside (range_of rules target t v path) i → slice_index new i ≡ slice_index old i
+  pub outside : (i : ℕ) → IsOutside (range_of rules target t v path) i
+      → slice_index new i ≡ slice_index old i
   pub shows : Shows rules target t (edited rules target t v path w) (bytes_of new)
   pub clear : (i k : ℕ) → (range_of rules target t v path).start ≤ i
       → i < (range_of rules target t v path).start + (range_of rules target t v path).size → k < 8
-      → holds rules target t (edited rules target t v path w) i k ≡ false → bit_at (bytes_of new i) k ≡ 0
+      → holds rules target t (edited rules target t v path w) i k ≡ false
+      → bit_at (bytes_of new i) k ≡ 0
 
 -- the edit of bytes, whatever value they show
 abbrev pub IsEdit : Rules → Target → Tree → List Step → Plain → List ℕ → List ℕ → Type 0
 IsEdit rules target t path w old new =
-    (v : Plain) → Shows rules target t v (bytes_of old) → (edit_fault rules target t v path w ≡ None) × IsEdited rules target t v path w old new
+    (v : Plain) → Shows rules target t v (bytes_of old)
+    → (edit_fault rules target t v path w ≡ None) × IsEdited rules target t v path w old new
 
 -- why they are not edited
 abbrev pub IsRefused : Rules → Target → Tree → List Step → Plain → List ℕ → EditError → Type 0
-IsRefused rules target t path w old e = (v : Plain) → Shows rules target t v (bytes_of old) → edit_fault rules target t v path w ≡ Some e
+IsRefused rules target t path w old e =
+    (v : Plain) → Shows rules target t v (bytes_of old)
+    → edit_fault rules target t v path w ≡ Some e

@@ -10,6 +10,7 @@ pub mod Laws
 pub mod Packed
 pub mod Packing
 pub mod Plain
+pub mod PlanCalls
 pub mod PlanShape
 pub mod Raw
 pub mod Reading

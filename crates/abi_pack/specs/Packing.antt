@@ -18,6 +18,9 @@ pub record Packing : Type 0 where
   pub layout : Frame
   pub sums : List Placed
 
+abbrev pub packing : Part → Frame → List Placed → Packing
+packing part layout sums = record { part = part; layout = layout; sums = sums }
+
 -- the plan is that of this description, which has no fault, under the rules on the target
 pub record IsPlanOf (p : Packing) (rules : Rules) (target : Target) (t : Tree) : Type 0 where
   pub faultless : desc_fault rules target t ≡ None
@@ -27,7 +30,8 @@ pub record IsPlanOf (p : Packing) (rules : Rules) (target : Target) (t : Tree) :
 
 -- whatever description the plan is of
 abbrev pub OfPlan : Packing → (Rules → Target → Tree → Type 0) → Type 0
-OfPlan p P = (rules : Rules) (target : Target) (t : Tree) → IsPlanOf p rules target t → P rules target t
+OfPlan p P =
+    (rules : Rules) (target : Target) (t : Tree) → IsPlanOf p rules target t → P rules target t
 
 -- it is the plan of some description
 abbrev pub IsSomePlan : Packing → Type 0

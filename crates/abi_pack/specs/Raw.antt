@@ -6,6 +6,7 @@ use Rattle.abi_bits.specs.Pairs.{Pair}
 use Rattle.abi_bits.specs.Mask.{mask_at}
 use Rattle.abi_bits.specs.Forbidden.{Item, is_match}
 use Rattle.abi_pack.specs.ByteMap.{ByteMap, firsts, bytes_of}
+use Rattle.abi_pack.specs.Plain.{Plain, bytes}
 
 -- n bytes
 abbrev pub are_bytes_of : ℕ → List ℕ → Bool
@@ -26,3 +27,7 @@ are_raw n free its xs = are_bytes_of n xs && are_clear free xs && match_none its
 -- the first n bytes, with 0 in their free bits
 abbrev pub cleared : List Pair → ℕ → ByteMap → List ℕ
 cleared free n f = firsts n (λ i. bit_and (f i) (bit_not w8 (mask_at free i)))
+
+-- the value that they are
+abbrev pub bytes_shown : List Pair → ℕ → ByteMap → Plain
+bytes_shown free n f = bytes (cleared free n f)

@@ -21,13 +21,15 @@ half w = full w / 2
 
 -- two's complement, in as many digits as the width has: a number below 0 as far below the end
 abbrev pub digits_of : Width → ℕ → Bool → ℕ
-digits_of w magnitude negative = if negative then (full w - magnitude % full w) % full w else magnitude % full w
+digits_of w magnitude negative =
+    if negative then (full w - magnitude % full w) % full w else magnitude % full w
 
 -- what number stands for these digits, and back
 abbrev pub encoded : Width → Stored → ℕ → ℕ
 encoded w stored_as.Itself n = n
 encoded w stored_as.Complement n = full w - 1 - n
-encoded w (stored_as.Distance magnitude negative) n = (n + (full w - digits_of w magnitude negative)) % full w
+encoded w (stored_as.Distance magnitude negative) n =
+    (n + (full w - digits_of w magnitude negative)) % full w
 
 abbrev pub decoded : Width → Stored → ℕ → ℕ
 decoded w stored_as.Itself n = n
@@ -40,7 +42,9 @@ coded f magnitude negative = encoded f.width f.stored (digits_of f.width magnitu
 
 -- the integer is one of the kind's values
 abbrev pub is_int : Integer → ℕ → Bool → Bool
-is_int f magnitude negative = in_width f.width f.signed magnitude negative && (f.zero || nat_lt 0 (coded f magnitude negative))
+is_int f magnitude negative =
+    in_width f.width f.signed magnitude negative
+    && (f.zero || nat_lt 0 (coded f magnitude negative))
 
 -- the value is one of the scalar's
 abbrev pub is_value : Scalar → Plain → Bool
@@ -63,6 +67,11 @@ low_worth (x ∷ xs) = x + 256 * low_worth xs
 abbrev pub ordered : Bool → List ℕ → List ℕ
 ordered little xs = if little then xs else reverse xs
 
+-- the bytes in which an integer stands
+abbrev pub integer_bytes : Integer → ℕ → Bool → List ℕ
+integer_bytes f magnitude negative =
+    ordered f.little (low_bytes (width_size f.width) (coded f magnitude negative))
+
 abbrev pub order_byte : Ordering → ℕ
 order_byte ordering.Less = 255
 order_byte ordering.Equal = 0
@@ -72,7 +81,7 @@ order_byte ordering.Greater = 1
 abbrev pub stored : Scalar → Plain → List ℕ
 stored scalars.Bool (boolean b) = (if b then 1 else 0) ∷ []
 stored scalars.Order (order o) = order_byte o ∷ []
-stored (scalars.Int f) (integer magnitude negative) = ordered f.little (low_bytes (width_size f.width) (coded f magnitude negative))
+stored (scalars.Int f) (integer magnitude negative) = integer_bytes f magnitude negative
 stored _ _ = []
 
 -- the number in the bytes
@@ -88,14 +97,16 @@ is_legal (scalars.Int f) image = f.zero || nat_lt 0 (number_in f image)
 
 -- the integer of these digits
 abbrev pub signed_integer : Integer → ℕ → Plain
-signed_integer f n = if f.signed && nat_le (half f.width) n then integer (full f.width - n) true else integer n false
+signed_integer f n =
+    if f.signed && nat_le (half f.width) n then integer (full f.width - n) true else integer n false
 
 abbrev pub integer_shown : Integer → ℕ → Plain
 integer_shown f number = signed_integer f (decoded f.width f.stored number)
 
 -- the order of a legal byte
 abbrev pub order_shown : ℕ → Ordering
-order_shown byte = if byte == 0 then ordering.Equal else (if byte == 1 then ordering.Greater else ordering.Less)
+order_shown byte =
+    if byte == 0 then ordering.Equal else (if byte == 1 then ordering.Greater else ordering.Less)
 
 -- the value that legal bytes show
 abbrev pub scalar_shown : Scalar → ByteMap → Plain

@@ -1,5 +1,5 @@
 -- Where a path leads through a plan, and the bytes that an edit leaves, in the order in which they are written.
-use Rattle.std.specs.Prelude.{ℕ, zero, suc, ◌+◌, List, [], ◌∷◌, ◌++◌, Bool, true, false, ◌&&◌, nat_le, nat_lt, Option, Some, None, take, drop, slice_set, if◌then◌else◌}
+use Rattle.std.specs.Prelude.{◌≡◌, ℕ, zero, suc, ◌+◌, List, [], ◌∷◌, ◌++◌, Bool, true, false, ◌&&◌, nat_le, nat_lt, Option, Some, None, take, drop, slice_set, if◌then◌else◌}
 use Rattle.abi_num.specs.Target.{same_bool}
 use Rattle.abi_bits.specs.Pairs.{Pair}
 use Rattle.abi_det.specs.State.{is_state_ok, put_bits}
@@ -8,13 +8,16 @@ use Rattle.abi_det.specs.declared.determinant.Test.TheVariants as test
 use Rattle.abi_layout.specs.Shape.{Shape, Shapes, fields, sum, last, field, size}
 use Rattle.abi_layout.specs.declared.part.Compound.TheVariants as compound
 use Rattle.abi_layout.specs.declared.part.SumLayout.{SumLayout}
-use Rattle.abi_pack.specs.ByteMap.{ByteMap, seen_from}
+use Rattle.abi_pack.specs.ByteMap.{ByteMap, seen_from, seen_in}
 use Rattle.abi_pack.specs.Edits.{Range, no_range, variant_entered, replaced}
 use Rattle.abi_pack.specs.Packed.{packed}
 use Rattle.abi_pack.specs.Plain.{Plain, Plains, unit, list, variant, end, more}
 use Rattle.abi_pack.specs.Shows.{fits, start_of, sign_of}
+use Rattle.abi_pack.specs.View.{shape}
 use Rattle.abi_pack.specs.declared.plan.EditError.{EditError}
 use Rattle.abi_pack.specs.declared.plan.EditError.TheVariants as error
+use Rattle.abi_pack.specs.declared.inner.Inner.{Inner as Found}
+use Rattle.abi_pack.specs.declared.restore.Replaced.{Replaced}
 use Rattle.abi_pack.specs.declared.step.Step.{Step}
 use Rattle.abi_pack.specs.declared.step.Step.TheVariants as step
 
@@ -30,6 +33,12 @@ abbrev pub field_named : Shapes → ℕ → ℕ → Option Inner
 field_named last n before = None
 field_named (field gap s fs) zero before = Some (record { part = s; start = before + gap })
 field_named (field gap s fs) (suc n) before = field_named fs n (before + gap + size s)
+
+-- what was found is the part that is named, or none is named
+abbrev pub IsFound : Option Found → Option Inner → Type 0
+IsFound None inner = inner ≡ None
+IsFound (Some found) inner =
+    inner ≡ Some (record { part = shape found.part.now; start = found.start })
 
 abbrev pub side_named : (Bool → Shape) → SumLayout → Option Bool → Option Inner
 side_named side at None = None
@@ -60,7 +69,13 @@ fault_by (Some inner) there rest = if there then rest inner else Some error.Wron
 -- why the part at the path does not get the value
 abbrev pub shape_fault : Shape → ByteMap → List Step → Plain → Option EditError
 shape_fault s f [] w = if fits s w then None else Some error.WrongPart
-shape_fault s f (st ∷ path) w = fault_by (named s st) (is_there s f st) (λ inner. shape_fault inner.part (seen_from inner.start f) path w)
+shape_fault s f (st ∷ path) w =
+    fault_by (named s st) (is_there s f st)
+    (λ inner. shape_fault inner.part (seen_from inner.start f) path w)
+
+-- the same of the bytes from `at` on
+abbrev pub shape_fault_at : Shape → List ℕ → ℕ → List Step → Plain → Option EditError
+shape_fault_at s xs at path w = shape_fault s (seen_in xs at) path w
 
 abbrev pub reaches_in : (Inner → Bool) → Option Inner → Bool
 reaches_in rest None = false
@@ -74,6 +89,10 @@ reaches s (st ∷ path) w = reaches_in (λ inner. reaches inner.part path w) (na
 -- so many bytes from there on
 abbrev pub bytes_from : ℕ → ℕ → Range
 bytes_from start size = record { start = start; size = size }
+
+-- the bytes that an edit replaces
+abbrev pub range_told : Replaced → Range
+range_told r = bytes_from r.start r.size
 
 abbrev pub inner_range : (Inner → Range) → Option Inner → Range
 inner_range rest None = no_range
@@ -117,7 +136,8 @@ put_inside r (p ∷ ps) xs = put_inside r ps (if is_inside r p.0 then slice_set 
 abbrev pub imposed_inside : Range → Test → Bool → List ℕ → List ℕ
 imposed_inside r test.BitDeterminant sign xs = if is_inside r 0 then put_bits 0 1 sign xs else xs
 imposed_inside r (test.ValueIsErr ps) sign xs = if sign then put_inside r ps xs else xs
-imposed_inside r (test.BitIsErr offset mask) sign xs = if is_inside r offset then put_bits offset mask sign xs else xs
+imposed_inside r (test.BitIsErr offset mask) sign xs =
+    if is_inside r offset then put_bits offset mask sign xs else xs
 
 abbrev pub restored_as : SumLayout → Range → List ℕ → Option Bool → List ℕ
 restored_as at r xs None = xs
@@ -130,7 +150,8 @@ restored _ s r xs = xs
 
 -- the n bytes from `start` on with others in their place
 abbrev pub within : ℕ → ℕ → (List ℕ → List ℕ) → List ℕ → List ℕ
-within start n change xs = take start xs ++ (change (take n (drop start xs)) ++ drop n (drop start xs))
+within start n change xs =
+    take start xs ++ (change (take n (drop start xs)) ++ drop n (drop start xs))
 
 abbrev pub patched_in : (Inner → List ℕ → List ℕ) → Option Inner → List ℕ → List ℕ
 patched_in change None xs = xs
@@ -139,4 +160,5 @@ patched_in change (Some inner) xs = within inner.start (size inner.part) (λ ys.
 abbrev pub patched : Shape → List Step → Plain → List ℕ → List ℕ
 patched s [] w xs = packed s w
 patched s (st ∷ path) w xs =
-    restored s st (shape_range s (st ∷ path)) (patched_in (λ inner ys. patched inner.part path w ys) (named s st) xs)
+    restored s st (shape_range s (st ∷ path))
+    (patched_in (λ inner ys. patched inner.part path w ys) (named s st) xs)

@@ -37,12 +37,14 @@ abbrev mutual
   Shows (atom a) v f = ShowsAtom a v f
   Shows (fields compound n fs) (list vs) f = ShowIn fs vs f
   Shows (sum names side at) (variant kind first v) f =
-      (same_sort names kind ≡ true) × (is_state_ok at.determinant f ≡ first) × Shows (side first) v (seen_from (start_of at first) f)
+      (same_sort names kind ≡ true) × (is_state_ok at.determinant f ≡ first)
+      × Shows (side first) v (seen_from (start_of at first) f)
   Shows _ _ f = ⊥
 
   pub ShowIn : Shapes → Plains → ByteMap → Type 0
   ShowIn last end f = Unit {0}
-  ShowIn (field gap s fs) (more v vs) f = Shows s v (seen_from gap f) × ShowIn fs vs (seen_from (gap + size s) f)
+  ShowIn (field gap s fs) (more v vs) f =
+      Shows s v (seen_from gap f) × ShowIn fs vs (seen_from (gap + size s) f)
   ShowIn _ _ f = ⊥
 
 -- the value holds bit k of byte i
@@ -51,12 +53,17 @@ abbrev mutual
   holds (atom a) v i k = atom_holds a i k
   holds (fields compound n fs) (list vs) i k = holds_in fs vs i k
   holds (sum names side at) (variant kind first v) i k =
-      held_at (start_of at first) (size (side first)) (λ j l. holds (side first) v j l) i k || holds_test at.determinant first i k
+      held_at (start_of at first) (size (side first)) (λ j l. holds (side first) v j l) i k
+      || holds_test at.determinant first i k
   holds _ _ i k = false
 
   pub holds_in : Shapes → Plains → ℕ → ℕ → Bool
   holds_in (field gap s fs) (more v vs) i k =
-      if nat_lt i gap then false else (if nat_lt i (gap + size s) then holds s v (i - gap) k else holds_in fs vs (i - (gap + size s)) k)
+      if nat_lt i gap
+      then false
+      else (if nat_lt i (gap + size s)
+      then holds s v (i - gap) k
+      else holds_in fs vs (i - (gap + size s)) k)
   holds_in _ _ i k = false
 
 -- the bytes show the value, and every bit that it does not hold is 0

@@ -37,12 +37,16 @@ digits w magnitude negative = if negative then 256 ^ width_size w - magnitude el
 -- the one integer of a width that a restricted kind leaves out: 0, all digits 1 (the greatest without sign), or the stated one
 abbrev pub left_out : Stored → Width → Bool → ℕ → Bool → Bool
 left_out stored.Itself w has_zero magnitude negative = not has_zero && magnitude == 0
-left_out stored.Complement w has_zero magnitude negative = digits w magnitude negative + 1 == 256 ^ width_size w
-left_out (stored.Distance m n) w has_zero magnitude negative = magnitude == m && same_bool negative n
+left_out stored.Complement w has_zero magnitude negative =
+    digits w magnitude negative + 1 == 256 ^ width_size w
+left_out (stored.Distance m n) w has_zero magnitude negative =
+    magnitude == m && same_bool negative n
 
 -- the integer of this distance from 0, below it where `negative`, is one of the kind's
 abbrev pub in_range : Integer → ℕ → Bool → Bool
-in_range g magnitude negative = in_width g.width g.signed magnitude negative && not (left_out g.stored g.width g.zero magnitude negative)
+in_range g magnitude negative =
+    in_width g.width g.signed magnitude negative
+    && not (left_out g.stored g.width g.zero magnitude negative)
 
 abbrev pub is_of : Scalar → Plain → Bool
 is_of scalars.Unit unit = true
@@ -83,7 +87,8 @@ ShowsPrim scalars.Bool (boolean b) f = f 0 ≡ (if b then 1 else 0)
 ShowsPrim scalars.Order (order o) f = f 0 ≡ order_number o
 ShowsPrim (scalars.Int g) (integer magnitude negative) f =
     (in_range g magnitude negative ≡ true)
-    × StandsFor g.stored g.width (number g.little (width_size g.width) f) (digits g.width magnitude negative)
+    × StandsFor g.stored g.width (number g.little (width_size g.width) f)
+    (digits g.width magnitude negative)
 ShowsPrim _ _ f = ⊥
 
 -- ---- arrays
@@ -97,7 +102,8 @@ fit_items fit _ _ = false
 -- n items of `size` bytes, of which the first has number i: each stands at its number times the size
 abbrev pub ShowItems : (Plain → ByteMap → Type 0) → ℕ → ℕ → ℕ → Plains → ByteMap → Type 0
 ShowItems Show size i zero end f = Unit {0}
-ShowItems Show size i (suc n) (more v vs) f = Show v (seen_from (i * size) f) × ShowItems Show size (i + 1) n vs f
+ShowItems Show size i (suc n) (more v vs) f =
+    Show v (seen_from (i * size) f) × ShowItems Show size (i + 1) n vs f
 ShowItems Show size i _ _ f = ⊥
 
 abbrev pub held_items : (Plain → ℕ → ℕ → Bool) → ℕ → ℕ → ℕ → Plains → ℕ → ℕ → Bool
@@ -109,7 +115,10 @@ held_items held size i _ _ at k = false
 
 -- the written placement of the two variants
 abbrev pub placement_of : Rules → Target → (Bool → Tree) → Placement
-placement_of rules target side = written_placement rules (written_frame rules target (side true)) (written_frame rules target (side false))
+placement_of rules target side =
+    written_placement rules
+    (written_frame rules target (side true))
+    (written_frame rules target (side false))
 
 -- where a variant starts in its sum: `Ok` and `Some` are the first
 abbrev pub variant_start : Placement → Bool → ℕ
@@ -138,9 +147,12 @@ abbrev mutual
   fits rules target (prim p) v = is_of (scalar_of target p) v
   fits rules target (struct label fs align) (list vs) = fits_in rules target fs vs
   fits rules target (array item len) (list vs) = fit_items (λ v. fits rules target item v) len vs
-  fits rules target (union side) (bytes xs) = are_bytes_of (written_frame rules target (union side)).size xs
-  fits rules target (sum names side) (variant kind first v) = same_sort names kind && fits rules target (side first) v
-  fits rules target (core names side) (variant kind first v) = same_sort names kind && fits rules target (side first) v
+  fits rules target (union side) (bytes xs) =
+      are_bytes_of (written_frame rules target (union side)).size xs
+  fits rules target (sum names side) (variant kind first v) =
+      same_sort names kind && fits rules target (side first) v
+  fits rules target (core names side) (variant kind first v) =
+      same_sort names kind && fits rules target (side first) v
   fits rules target (wrap kind t) v = fits rules target t v
   fits rules target (stable_if value condition) v = fits rules target value v
   fits rules target (pointer kind t) v = is_of (pointer_row target kind).scalar v
@@ -150,7 +162,8 @@ abbrev mutual
 
   pub fits_in : Rules → Target → Branches → Plains → Bool
   fits_in rules target none end = true
-  fits_in rules target (field name t fs) (more v vs) = fits rules target t v && fits_in rules target fs vs
+  fits_in rules target (field name t fs) (more v vs) =
+      fits rules target t v && fits_in rules target fs vs
   fits_in rules target _ _ = false
 
 -- the bytes show the value
@@ -160,19 +173,24 @@ abbrev mutual
   Shows rules target (struct label fs align) (list vs) f =
       ShowIn rules target fs (positions 0 (written_frames rules target fs)) vs f
   Shows rules target (array item len) (list vs) f =
-      ShowItems (λ v g. Shows rules target item v g) (written_frame rules target item).size 0 len vs f
-  Shows rules target (union side) (bytes xs) f = xs ≡ firsts (written_frame rules target (union side)).size f
+      ShowItems (λ v g. Shows rules target item v g) (written_frame rules target item).size
+      0 len vs f
+  Shows rules target (union side) (bytes xs) f =
+      xs ≡ firsts (written_frame rules target (union side)).size f
   Shows rules target (sum names side) (variant kind first v) f =
       (same_sort names kind ≡ true)
       × (is_state_ok (placement_of rules target side).determinant f ≡ first)
-      × Shows rules target (side first) v (seen_from (variant_start (placement_of rules target side) first) f)
+      × Shows rules target (side first) v
+      (seen_from (variant_start (placement_of rules target side) first) f)
   Shows rules target (core names side) (variant kind first v) f =
-      (same_sort names kind ≡ true) × (core_state rules target side f ≡ first) × Shows rules target (side first) v f
+      (same_sort names kind ≡ true) × (core_state rules target side f ≡ first)
+      × Shows rules target (side first) v f
   Shows rules target (wrap kind t) v f = Shows rules target t v f
   Shows rules target (stable_if value condition) v f = Shows rules target value v f
   Shows rules target (pointer kind t) v f = ShowsPrim (pointer_row target kind).scalar v f
   Shows rules target (no_niches size align niches indirections) (bytes xs) f = xs ≡ firsts size f
-  Shows rules target (leaf l) (bytes xs) f = (match_none (leaf_items l) f ≡ true) × (xs ≡ cleared l.free l.size f)
+  Shows rules target (leaf l) (bytes xs) f =
+      (match_none (leaf_items l) f ≡ true) × (xs ≡ cleared l.free l.size f)
   Shows rules target _ _ f = ⊥
 
   -- each field's bytes, from its position, show its value
@@ -189,18 +207,22 @@ abbrev mutual
   holds rules target (struct label fs align) (list vs) i k =
       holds_in rules target fs (positions 0 (written_frames rules target fs)) vs i k
   holds rules target (array item len) (list vs) i k =
-      held_items (λ v j l. holds rules target item v j l) (written_frame rules target item).size 0 len vs i k
+      held_items (λ v j l. holds rules target item v j l) (written_frame rules target item).size
+      0 len vs i k
   holds rules target (union side) v i k = nat_lt i (written_frame rules target (union side)).size
   holds rules target (sum names side) (variant kind first v) i k =
-      held_at (variant_start (placement_of rules target side) first) (written_frame rules target (side first)).size
+      held_at (variant_start (placement_of rules target side) first)
+      (written_frame rules target (side first)).size
       (λ j l. holds rules target (side first) v j l) i k
       || holds_test (placement_of rules target side).determinant first i k
   holds rules target (core names side) (variant kind first v) i k =
-      held_at 0 (written_frame rules target (side first)).size (λ j l. holds rules target (side first) v j l) i k
+      held_at 0 (written_frame rules target (side first)).size
+      (λ j l. holds rules target (side first) v j l) i k
       || holds_absence rules target side first i
   holds rules target (wrap kind t) v i k = holds rules target t v i k
   holds rules target (stable_if value condition) v i k = holds rules target value v i k
-  holds rules target (pointer kind t) v i k = nat_lt i (written_frame rules target (pointer kind t)).size
+  holds rules target (pointer kind t) v i k =
+      nat_lt i (written_frame rules target (pointer kind t)).size
   holds rules target (no_niches size align niches indirections) v i k = nat_lt i size
   holds rules target (leaf l) v i k = nat_lt i l.size && not (has l.free i k)
   holds rules target _ _ i k = false
@@ -208,13 +230,16 @@ abbrev mutual
   -- each field's value holds its bits, from its position on
   pub holds_in : Rules → Target → Branches → List Positioned → Plains → ℕ → ℕ → Bool
   holds_in rules target (field name t fs) (p ∷ ps) (more v vs) i k =
-      held_at p.start p.held.size (λ j l. holds rules target t v j l) i k || holds_in rules target fs ps vs i k
+      held_at p.start p.held.size (λ j l. holds rules target t v j l) i k
+      || holds_in rules target fs ps vs i k
   holds_in rules target _ _ _ i k = false
 
 -- the bytes show the value, and every bit that it does not hold is 0
-pub record IsCanonical (rules : Rules) (target : Target) (t : Tree) (v : Plain) (f : ByteMap) : Type 0 where
+pub record IsCanonical (rules : Rules) (target : Target) (t : Tree) (v : Plain) (f : ByteMap)
+    : Type 0 where
   pub shows : Shows rules target t v f
-  pub clear : (i k : ℕ) → i < (written_frame rules target t).size → k < 8 → holds rules target t v i k ≡ false
+  pub clear : (i k : ℕ) → i < (written_frame rules target t).size → k < 8
+      → holds rules target t v i k ≡ false
       → bit_at (f i) k ≡ 0
 
 -- as many bytes as the description has
@@ -222,7 +247,8 @@ abbrev pub IsLong : Rules → Target → Tree → List ℕ → Type 0
 IsLong rules target t bs = length bs ≡ (written_frame rules target t).size
 
 -- canonical bytes of the value, as many as the description has
-pub record IsImageOf (rules : Rules) (target : Target) (t : Tree) (v : Plain) (bs : List ℕ) : Type 0 where
+pub record IsImageOf (rules : Rules) (target : Target) (t : Tree) (v : Plain) (bs : List ℕ)
+    : Type 0 where
   pub long : IsLong rules target t bs
   pub bytes : AreBytes (bytes_of bs)
   pub canonical : IsCanonical rules target t v (bytes_of bs)

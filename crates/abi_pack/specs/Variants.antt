@@ -19,7 +19,8 @@ truth_of d false = not d.«not»
 
 -- of n bytes that stand at `start`, those bits of which `held` tells
 abbrev pub held_at : ℕ → ℕ → (ℕ → ℕ → Bool) → ℕ → ℕ → Bool
-held_at start n held i k = if nat_lt i start then false else (if nat_lt i (start + n) then held (i - start) k else false)
+held_at start n held i k =
+    if nat_lt i start then false else (if nat_lt i (start + n) then held (i - start) k else false)
 
 -- the one bit of a tag or of a shared bit, and the bytes of a pattern where its presence names the variant
 abbrev pub holds_test : Determinant → Bool → ℕ → ℕ → Bool

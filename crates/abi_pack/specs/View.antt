@@ -1,10 +1,17 @@
 -- Parts of a plan and values as plain data.
-use Rattle.std.specs.Prelude.{List, [], ◌∷◌, true, false, map}
+use Rattle.std.specs.Prelude.{◌≡◌, ℕ, List, [], ◌∷◌, true, false, map}
 use Rattle.abi_pack.specs.Plain.{Plain, Plains, unit, integer, boolean, order, bytes, list, variant, end, more}
 use Rattle.abi_layout.specs.declared.part.Sort.TheVariants as sort
 use Rattle.abi_pack.specs.declared.value.Value.{Value, fold-Value}
+use Rattle.abi_pack.specs.declared.layers.Variant.{Variant}
 use Rattle.abi_pack.specs.declared.value.Value.TheOpen.{Value-F}
+use Rattle.abi_layout.specs.Shape.{Shapes, repeated}
+use Rattle.abi_layout.specs.declared.part.Part.{Part}
 pub use Rattle.abi_layout.specs.PartView.{shape, shapes}
+
+-- the items of an array, as fields
+abbrev pub items_of : ℕ → Part → Shapes
+items_of len item = repeated len (shape item)
 
 abbrev pub plains_of : List Plain → Plains
 plains_of [] = end
@@ -32,3 +39,7 @@ plains vs = plains_of (map plain vs)
 abbrev pub joined : List Value → Plains → Plains
 joined [] rest = rest
 joined (v ∷ vs) rest = more (plain v) (joined vs rest)
+
+-- the value is this variant
+abbrev pub IsVariant : Plain → Variant → Type 0
+IsVariant v found = v ≡ variant found.names found.first (plain found.payload.now)

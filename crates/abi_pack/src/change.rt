@@ -1,7 +1,7 @@
 ghost use Rattle.std.specs.Prelude.{◌≡◌, true, ◌+◌, ◌<◌, ◌^◌, length};
 ghost use Rattle.abi_layout.specs.Shape.{size};
 ghost use Rattle.abi_pack.specs.Consistent.{IsConsistent};
-ghost use Rattle.abi_pack.specs.ShapeEdits.{bytes_from, reaches, shape_range, patched, restored};
+ghost use Rattle.abi_pack.specs.ShapeEdits.{range_told, reaches, shape_range, patched, restored};
 ghost use Rattle.abi_pack.specs.View.{shape, plain};
 
 use crate::inner::{named, variant_entered};
@@ -20,7 +20,7 @@ pub(crate) fn change(part: &Part, bytes: &mut [u8], path: &[Step], value: &Value
     requires small { size (shape part.now) < 2 ^ 32 }
     requires reaches { reaches (shape part.now) path.now (plain value.now) ≡ true }
     requires room { length bytes.old ≡ size (shape part.now) }
-    ensures range { bytes_from result.start result.size ≡ shape_range (shape part.now) path.now }
+    ensures range { range_told result ≡ shape_range (shape part.now) path.now }
     ensures bytes { bytes.new ≡ patched (shape part.now) path.now (plain value.now) bytes.old }
 {
     match path.split_first() {
@@ -53,7 +53,7 @@ fn restore_variant(part: &Part, step: &Step, replaced: Replaced, bytes: &mut [u8
     requires sound { IsConsistent (shape part.now) }
     requires small { replaced.start + replaced.size < 2 ^ 32 }
     requires room { length bytes.old ≡ size (shape part.now) }
-    ensures { bytes.new ≡ restored (shape part.now) step.now (bytes_from replaced.start replaced.size) bytes.old }
+    ensures { bytes.new ≡ restored (shape part.now) step.now (range_told replaced) bytes.old }
 {
     if let Part::Sum {
         names,

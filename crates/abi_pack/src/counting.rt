@@ -1,10 +1,10 @@
 //! How many values reading makes, counted before it makes them.
-ghost use Rattle.std.specs.Prelude.{◌≡◌, ◌+◌, ◌≤◌, ◌<◌, ◌^◌, length, slice_index};
-ghost use Rattle.abi_layout.specs.Shape.{size, size_in, repeated};
-ghost use Rattle.abi_pack.specs.ByteMap.{seen_from};
+ghost use Rattle.std.specs.Prelude.{◌≡◌, ◌+◌, ◌≤◌, ◌<◌, ◌^◌, length};
+ghost use Rattle.abi_layout.specs.Shape.{size, size_in};
+ghost use Rattle.abi_pack.specs.ByteMap.{seen_in};
 ghost use Rattle.abi_pack.specs.Consistent.{IsConsistent, AreConsistent};
 ghost use Rattle.abi_pack.specs.Counting.{counted, counted_in, max_values};
-ghost use Rattle.abi_pack.specs.View.{shape, shapes};
+ghost use Rattle.abi_pack.specs.View.{items_of, shape, shapes};
 
 use crate::sides::{side, size, start};
 use abi_layout::{Part, PartField};
@@ -21,7 +21,7 @@ pub(crate) fn values(part: &Part, bytes: &[u8], at: usize, before: u64) -> u64
     requires small { length bytes.now < 2 ^ 32 }
     requires within { at + size (shape part.now) ≤ length bytes.now }
     requires low { before ≤ max_values + 1 }
-    ensures { result ≡ counted before (shape part.now) (seen_from at (slice_index bytes.now)) }
+    ensures { result ≡ counted before (shape part.now) (seen_in bytes.now at) }
 {
     let count = (before + 1).min(MAX_VALUES + 1);
     match part {
@@ -49,7 +49,7 @@ fn values_of_all(fields: &[PartField], bytes: &[u8], at: usize, before: u64) -> 
     requires small { length bytes.now < 2 ^ 32 }
     requires within { at + size_in (shapes fields.now) ≤ length bytes.now }
     requires low { before ≤ max_values + 1 }
-    ensures { result ≡ counted_in before (shapes fields.now) (seen_from at (slice_index bytes.now)) }
+    ensures { result ≡ counted_in before (shapes fields.now) (seen_in bytes.now at) }
 {
     match fields.split_first() {
         Some((field, fields)) => {
@@ -69,11 +69,11 @@ fn values_of_all(fields: &[PartField], bytes: &[u8], at: usize, before: u64) -> 
 #[cycle(values)]
 #[tactic(auto, using(crate::proofs::Rows::row_size_next))]
 fn values_of_each(item: &Part, len: u64, bytes: &[u8], at: usize, before: u64) -> u64
-    requires sound { AreConsistent (repeated len (shape item.now)) }
+    requires sound { AreConsistent (items_of len item.now) }
     requires small { length bytes.now < 2 ^ 32 }
-    requires within { at + size_in (repeated len (shape item.now)) ≤ length bytes.now }
+    requires within { at + size_in (items_of len item.now) ≤ length bytes.now }
     requires low { before ≤ max_values + 1 }
-    ensures { result ≡ counted_in before (repeated len (shape item.now)) (seen_from at (slice_index bytes.now)) }
+    ensures { result ≡ counted_in before (items_of len item.now) (seen_in bytes.now at) }
 {
     if len == 0 {
         return before;

@@ -1,8 +1,8 @@
-ghost use Rattle.std.specs.Prelude.{◌≡◌, ◌+◌, ◌≤◌, ◌<◌, ◌^◌, length, slice_index};
+ghost use Rattle.std.specs.Prelude.{◌≡◌, ◌+◌, ◌≤◌, ◌<◌, ◌^◌, length};
 ghost use Rattle.abi_layout.specs.Shape.{size};
-ghost use Rattle.abi_pack.specs.ByteMap.{seen_from};
+ghost use Rattle.abi_pack.specs.ByteMap.{seen_in};
 ghost use Rattle.abi_pack.specs.Consistent.{IsConsistent};
-ghost use Rattle.abi_pack.specs.ShapeEdits.{is_there, shape_fault};
+ghost use Rattle.abi_pack.specs.ShapeEdits.{is_there, shape_fault_at};
 ghost use Rattle.abi_pack.specs.View.{shape, plain};
 
 use crate::fits::fits;
@@ -24,7 +24,7 @@ pub(crate) fn edit_fault(
     requires sound { IsConsistent (shape part.now) }
     requires small { length bytes.now < 2 ^ 32 }
     requires within { at + size (shape part.now) ≤ length bytes.now }
-    ensures { result ≡ shape_fault (shape part.now) (seen_from at (slice_index bytes.now)) path.now (plain value.now) }
+    ensures { result ≡ shape_fault_at (shape part.now) bytes.now at path.now (plain value.now) }
 {
     match path.split_first() {
         None => {
@@ -50,7 +50,7 @@ pub(crate) fn edit_fault(
 fn is_there(part: &Part, bytes: &[u8], at: usize, step: &Step) -> bool
     requires sound { IsConsistent (shape part.now) }
     requires within { at + size (shape part.now) ≤ length bytes.now }
-    ensures { result ≡ is_there (shape part.now) (seen_from at (slice_index bytes.now)) step.now }
+    ensures { result ≡ is_there (shape part.now) (seen_in bytes.now at) step.now }
 {
     match part {
         Part::Sum {

@@ -2,7 +2,7 @@ ghost use Rattle.std.specs.Prelude.{◌≡◌};
 ghost use Rattle.abi_layout.specs.Shape.{repeated};
 ghost use Rattle.abi_pack.specs.Consistent.{IsConsistent, AreConsistent};
 ghost use Rattle.abi_pack.specs.Shows.{fits, fits_in};
-ghost use Rattle.abi_pack.specs.View.{shape, shapes, plain, plains};
+ghost use Rattle.abi_pack.specs.View.{items_of, shape, shapes, plain, plains};
 
 use crate::sides::{is_same, side};
 use crate::value::Value;
@@ -64,8 +64,8 @@ fn fit_all(fields: &[PartField], values: &[Value]) -> bool
 #[cycle(fits)]
 #[tactic(auto, using(crate::proofs::Rows::row_other_count))]
 fn fit_each(item: &Part, len: u64, values: &[Value]) -> bool
-    requires sound { AreConsistent (repeated len (shape item.now)) }
-    ensures { result ≡ fits_in (repeated len (shape item.now)) (plains values.now) }
+    requires sound { AreConsistent (items_of len item.now) }
+    ensures { result ≡ fits_in (items_of len item.now) (plains values.now) }
 {
     if values.len() as u64 != len {
         return false;

@@ -1,9 +1,9 @@
-ghost use Rattle.std.specs.Prelude.{◌≡◌, ◌+◌, ◌<◌, ◌^◌, Some, None, MatchOption};
-ghost use Rattle.abi_layout.specs.Shape.{size, size_in, repeated};
+ghost use Rattle.std.specs.Prelude.{◌≡◌, ◌+◌, ◌<◌, ◌^◌};
+ghost use Rattle.abi_layout.specs.Shape.{size, size_in};
 ghost use Rattle.abi_pack.specs.Consistent.{IsConsistent};
 ghost use Rattle.abi_pack.specs.Edits.{variant_entered};
-ghost use Rattle.abi_pack.specs.ShapeEdits.{field_named, named};
-ghost use Rattle.abi_pack.specs.View.{shape, shapes};
+ghost use Rattle.abi_pack.specs.ShapeEdits.{IsFound, field_named, named};
+ghost use Rattle.abi_pack.specs.View.{items_of, shape, shapes};
 
 use crate::sides::{side, size, start};
 use crate::step::Step;
@@ -20,7 +20,7 @@ pub(crate) struct Inner<'a> {
 pub(crate) fn named<'a>(part: &'a Part, step: &Step) -> Option<Inner<'a>>
     requires sound { IsConsistent (shape part.now) }
     requires small { size (shape part.now) < 2 ^ 32 }
-    ensures { MatchOption result (named (shape part.now) step.now ≡ None) (λ r. named (shape part.now) step.now ≡ Some (record { part = shape r.part.now; start = r.start })) }
+    ensures { IsFound result (named (shape part.now) step.now) }
 {
     match part {
         Part::Scalar(_) | Part::Raw { .. } => None,
@@ -62,7 +62,7 @@ pub(crate) fn variant_entered(names: &Sort, step: &Step) -> Option<bool>
 #[cycle(field_named)]
 fn field_named(fields: &[PartField], number: u32, before: usize) -> Option<Inner<'_>>
     requires small { before + size_in (shapes fields.now) < 2 ^ 32 }
-    ensures { MatchOption result (field_named (shapes fields.now) number before ≡ None) (λ r. field_named (shapes fields.now) number before ≡ Some (record { part = shape r.part.now; start = r.start })) }
+    ensures { IsFound result (field_named (shapes fields.now) number before) }
 {
     match fields.split_first() {
         Some((field, fields)) => {
@@ -81,8 +81,8 @@ fn field_named(fields: &[PartField], number: u32, before: usize) -> Option<Inner
 
 /// The item of that number, of `len`.
 fn item_named(item: &Part, len: u64, number: u32) -> Option<Inner<'_>>
-    requires small { size_in (repeated len (shape item.now)) < 2 ^ 32 }
-    ensures { MatchOption result (field_named (repeated len (shape item.now)) number 0 ≡ None) (λ r. field_named (repeated len (shape item.now)) number 0 ≡ Some (record { part = shape r.part.now; start = r.start })) }
+    requires small { size_in (items_of len item.now) < 2 ^ 32 }
+    ensures { IsFound result (field_named (items_of len item.now) number 0) }
 {
     if (number as u64) < len {
         return Some(Inner {

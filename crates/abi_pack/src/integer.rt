@@ -1,43 +1,16 @@
 ghost use Rattle.std.specs.Prelude.{◌≡◌, true, ◌+◌, ◌-◌, ◌%◌, ◌<◌, ◌≤◌, length, if◌then◌else◌};
 ghost use Rattle.abi_layout.specs.Prims.{width_size, in_width};
-ghost use Rattle.abi_pack.specs.Scalars.{full, digits_of, encoded, decoded, coded, is_int, signed_integer, integer_shown, low_bytes, low_worth, ordered};
+ghost use Rattle.abi_pack.specs.Scalars.{full, digits_of, encoded, decoded, coded, integer_bytes, is_int, signed_integer, integer_shown, low_bytes, low_worth, ordered};
 ghost use Rattle.abi_pack.specs.View.{plain};
 
 use crate::value::Value;
 use abi_layout::{Integer, Stored, Width};
 
-/// The greatest number that stands in that many bytes.
-fn greatest(width: Width) -> u128
-    ensures { result + 1 ≡ full width }
-{
-    match width {
-        Width::One => 0xff,
-        Width::Two => 0xffff,
-        Width::Four => 0xffff_ffff,
-        Width::Eight => 0xffff_ffff_ffff_ffff,
-        Width::Sixteen => 0xffff_ffff_ffff_ffff_ffff_ffff_ffff_ffff,
-    }
-}
-
-/// Whether the integer has a place in the width; no 0 lies below 0.
-fn in_width(width: Width, signed: bool, magnitude: u128, negative: bool) -> bool
-    ensures { result ≡ in_width width signed magnitude negative }
-{
-    let most = greatest(width);
-    if negative {
-        signed && 0 < magnitude && magnitude <= most / 2 + 1
-    } else if signed {
-        magnitude <= most / 2
-    } else {
-        magnitude <= most
-    }
-}
-
 /// Whether the integer is one of its kind's.
 pub(crate) fn has_integer(integer: &Integer, magnitude: u128, negative: bool) -> bool
     ensures { result ≡ is_int integer.now magnitude negative }
 {
-    if !in_width(integer.width, integer.signed, magnitude, negative) {
+    if !integer.width.holds(integer.signed, magnitude, negative) {
         return false;
     }
     integer.zero || 0 < coded_integer(integer, magnitude, negative)
@@ -62,9 +35,9 @@ fn digits_of(width: Width, magnitude: u128, negative: bool) -> u128
     ensures small { result < full width }
 {
     if negative {
-        magnitude.wrapping_neg() & greatest(width)
+        magnitude.wrapping_neg() & width.greatest()
     } else {
-        magnitude & greatest(width)
+        magnitude & width.greatest()
     }
 }
 
@@ -76,11 +49,11 @@ fn encoded(width: Width, stored: Stored, digits: u128) -> u128
 {
     match stored {
         Stored::Itself => digits,
-        Stored::Complement => greatest(width) - digits,
+        Stored::Complement => width.greatest() - digits,
         Stored::Distance {
             magnitude,
             negative,
-        } => digits.wrapping_sub(digits_of(width, magnitude, negative)) & greatest(width),
+        } => digits.wrapping_sub(digits_of(width, magnitude, negative)) & width.greatest(),
     }
 }
 
@@ -92,11 +65,11 @@ fn decoded(width: Width, stored: Stored, number: u128) -> u128
 {
     match stored {
         Stored::Itself => number,
-        Stored::Complement => greatest(width) - number,
+        Stored::Complement => width.greatest() - number,
         Stored::Distance {
             magnitude,
             negative,
-        } => number.wrapping_add(digits_of(width, magnitude, negative)) & greatest(width),
+        } => number.wrapping_add(digits_of(width, magnitude, negative)) & width.greatest(),
     }
 }
 
@@ -113,7 +86,7 @@ fn signed_integer(integer: &Integer, digits: u128) -> Value
     requires { digits < full integer.now.width }
     ensures { plain result ≡ signed_integer integer.now digits }
 {
-    let most = greatest(integer.width);
+    let most = integer.width.greatest();
     if integer.signed && most / 2 < digits {
         Value::Int {
             magnitude: most - digits + 1,
@@ -131,7 +104,7 @@ fn signed_integer(integer: &Integer, digits: u128) -> Value
 pub(crate) fn write_integer(integer: &Integer, magnitude: u128, negative: bool, out: &mut [u8])
     requires value { is_int integer.now magnitude negative ≡ true }
     requires room { length out.old ≡ width_size integer.now.width }
-    ensures { out.new ≡ ordered integer.now.little (low_bytes (width_size integer.now.width) (coded integer.now magnitude negative)) }
+    ensures { out.new ≡ integer_bytes integer.now magnitude negative }
 {
     write_low_first(coded_integer(integer, magnitude, negative), out);
     if !integer.little {

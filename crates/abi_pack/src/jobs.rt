@@ -1,11 +1,6 @@
 ghost use Rattle.std.specs.Prelude.{◌≡◌, ◌<◌, ◌^◌, None, IfOk, IfErr, OnOk, length};
-ghost use Rattle.abi_layout.specs.Trees.{tree};
-ghost use Rattle.abi_pack.specs.EditLists.{plain_edits, edits_left};
-ghost use Rattle.abi_pack.specs.Jobs.{IsJobFault, job_fault, image_of, AreEditsOf, AreRefused};
-ghost use Rattle.abi_pack.specs.Packing.{OfPlan};
-ghost use Rattle.abi_pack.specs.Reading.{IsShown};
-ghost use Rattle.abi_pack.specs.Values.{IsImageOf};
-ghost use Rattle.abi_pack.specs.View.{plain};
+ghost use Rattle.abi_pack.specs.Jobs.{IsJobFault, fault_of, image_left, IsImageLeft};
+ghost use Rattle.abi_pack.specs.PlanCalls.{AreShownBy, AreEditsBy, AreRefusedBy};
 
 use crate::abi_error::AbiError;
 use crate::image::Image;
@@ -28,10 +23,10 @@ pub fn run(
     edits: &[Edit],
 ) -> Result<Image, AbiError>
     requires few_edits { length edits.now < 2 ^ 32 }
-    ensures faultless { IfOk result (λ _. job_fault Rules.One target.now (tree desc.now) (plain value.now) (plain_edits edits.now) ≡ None) }
-    ensures image { IfOk result (λ image. image ≡ image_of Rules.One target.now (tree desc.now) (edits_left Rules.One target.now (tree desc.now) (plain value.now) (plain_edits edits.now))) }
-    ensures canonical { IfOk result (λ image. IsImageOf Rules.One target.now (tree desc.now) (edits_left Rules.One target.now (tree desc.now) (plain value.now) (plain_edits edits.now)) image.bytes) }
-    ensures err { IfErr result (IsJobFault (job_fault Rules.One target.now (tree desc.now) (plain value.now) (plain_edits edits.now))) }
+    ensures faultless { IfOk result (λ _. fault_of target.now desc.now value.now edits.now ≡ None) }
+    ensures image { IfOk result (λ i. i ≡ image_left target.now desc.now value.now edits.now) }
+    ensures canonical { IfOk result (IsImageLeft target.now desc.now value.now edits.now) }
+    ensures err { IfErr result (IsJobFault (fault_of target.now desc.now value.now edits.now)) }
 {
     let plan = Plan::of(alloc, target, desc)?;
     if !plan.fits(value) {
@@ -47,10 +42,10 @@ pub fn run(
 /// Edits the bytes, which must show a value, by each edit in turn. There must be fewer than 2^32 edits. Refused with
 /// the fault of the first that fails; the bytes are then as those before it left them. Takes no memory.
 pub fn edit_each(plan: &Plan, bytes: &mut [u8], edits: &[Edit]) -> Result<(), AbiError>
-    requires shown { OfPlan plan.now (λ rules target t. IsShown rules target t bytes.old) }
+    requires shown { AreShownBy plan.now bytes.old }
     requires few_edits { length edits.now < 2 ^ 32 }
-    ensures ok { OnOk result (OfPlan plan.now (λ rules target t. AreEditsOf rules target t (plain_edits edits.now) bytes.old bytes.new)) }
-    ensures err { IfErr result (λ error. OfPlan plan.now (λ rules target t. AreRefused rules target t (plain_edits edits.now) bytes.old error)) }
+    ensures ok { OnOk result (AreEditsBy plan.now edits.now bytes.old bytes.new) }
+    ensures err { IfErr result (AreRefusedBy plan.now edits.now bytes.old) }
 {
     for (number, edit) in edits.iter().enumerate() {
         if let Err(error) = plan.edit(bytes, edit.path.as_slice(), &edit.value) {

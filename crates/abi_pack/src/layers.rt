@@ -1,6 +1,6 @@
-ghost use Rattle.std.specs.Prelude.{◌≡◌, false, MatchOption};
-ghost use Rattle.abi_pack.specs.Plain.{unit as no_bytes, integer, boolean, order, bytes, list, variant, is_unit, is_integer, is_boolean, is_order, is_bytes, is_list, is_variant};
-ghost use Rattle.abi_pack.specs.View.{plain, plains};
+ghost use Rattle.std.specs.Prelude.{◌≡◌, false, IfNone, IfSome};
+ghost use Rattle.abi_pack.specs.Plain.{unit as no_bytes, integer, boolean, order, bytes, list, is_unit, is_integer, is_boolean, is_order, is_bytes, is_list, is_variant};
+ghost use Rattle.abi_pack.specs.View.{IsVariant, plain, plains};
 
 use crate::value::Value;
 use abi_layout::Sort;
@@ -24,7 +24,8 @@ impl Value {
 
     /// The integer: its distance from 0, and whether it lies below 0.
     pub(crate) fn as_integer(&self) -> Option<(u128, bool)>
-        ensures { MatchOption result (is_integer (plain self.now) ≡ false) (λ r. plain self.now ≡ integer r.0 r.1) }
+        ensures none { IfNone result (is_integer (plain self.now) ≡ false) }
+        ensures some { IfSome result (λ r. plain self.now ≡ integer r.0 r.1) }
     {
         match self {
             Value::Int {
@@ -37,7 +38,8 @@ impl Value {
 
     /// The truth value.
     pub(crate) fn as_bool(&self) -> Option<bool>
-        ensures { MatchOption result (is_boolean (plain self.now) ≡ false) (λ b. plain self.now ≡ boolean b) }
+        ensures none { IfNone result (is_boolean (plain self.now) ≡ false) }
+        ensures some { IfSome result (λ b. plain self.now ≡ boolean b) }
     {
         match self {
             Value::Bool(truth) => Some(*truth),
@@ -47,7 +49,8 @@ impl Value {
 
     /// The order.
     pub(crate) fn as_order(&self) -> Option<Ordering>
-        ensures { MatchOption result (is_order (plain self.now) ≡ false) (λ o. plain self.now ≡ order o) }
+        ensures none { IfNone result (is_order (plain self.now) ≡ false) }
+        ensures some { IfSome result (λ o. plain self.now ≡ order o) }
     {
         match self {
             Value::Order(order) => Some(*order),
@@ -57,7 +60,8 @@ impl Value {
 
     /// The bytes.
     pub(crate) fn as_bytes(&self) -> Option<&[u8]>
-        ensures { MatchOption result (is_bytes (plain self.now) ≡ false) (λ xs. plain self.now ≡ bytes xs.now) }
+        ensures none { IfNone result (is_bytes (plain self.now) ≡ false) }
+        ensures some { IfSome result (λ xs. plain self.now ≡ bytes xs.now) }
     {
         match self {
             Value::Bytes(bytes) => Some(bytes.as_slice()),
@@ -68,7 +72,8 @@ impl Value {
     /// The values of a list.
     #[tactic(auto, using(crate::proofs::Views::plain_list))]
     pub(crate) fn as_list(&self) -> Option<&[Value]>
-        ensures { MatchOption result (is_list (plain self.now) ≡ false) (λ vs. plain self.now ≡ list (plains vs.now)) }
+        ensures none { IfNone result (is_list (plain self.now) ≡ false) }
+        ensures some { IfSome result (λ vs. plain self.now ≡ list (plains vs.now)) }
     {
         match self {
             Value::List(values) => Some(values.as_slice()),
@@ -79,7 +84,8 @@ impl Value {
     /// The variant; `None` has the payload `unit`, which is `Value::Unit`.
     pub(crate) fn as_variant<'a>(&'a self, unit: &'a Value) -> Option<Variant<'a>>
         requires { plain unit.now ≡ no_bytes }
-        ensures { MatchOption result (is_variant (plain self.now) ≡ false) (λ r. plain self.now ≡ variant r.names r.first (plain r.payload.now)) }
+        ensures none { IfNone result (is_variant (plain self.now) ≡ false) }
+        ensures some { IfSome result (IsVariant (plain self.now)) }
     {
         match self {
             Value::Ok(payload) => Some(Variant {

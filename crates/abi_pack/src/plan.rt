@@ -25,7 +25,7 @@ pub enum ReadError {
     WrongLength,
     /// There are as many, and they show no value.
     IllegalBytes,
-    /// Memory was refused, or the bytes show a value that has more than `MAX_VALUES` values in it.
+    /// There are as many, and memory was refused, or more than `MAX_VALUES` values are in the one that they show.
     OutOfMemory,
 }
 
@@ -50,7 +50,7 @@ pub struct Plan {
 }
 
 impl Model for Plan {
-    ghost use Rattle.abi_pack.specs.Packing.{Packing};
+    ghost use Rattle.abi_pack.specs.Packing.{Packing, packing};
     ghost use Rattle.abi_layout.specs.contracts.part.Part as e;
     ghost use Rattle.std.specs.Coded.{codes};
 
@@ -58,26 +58,20 @@ impl Model for Plan {
 
     ghost coded = { Prim.hlevel (codes, e.the_row.coded) };
 
-    ghost use Rattle.abi_pack.specs.Packing.{IsSomePlan};
-    ghost use Rattle.abi_pack.specs.PlanShape.{IsPlanShape};
-    ghost use Rattle.abi_layout.specs.PartView.{shape};
+    ghost use Rattle.abi_pack.specs.PlanShape.{IsPlan};
 
-    ghost view = { λ p. record { part = p.part; layout = p.layout; sums = p.placed } };
+    ghost view = { λ p. packing p.part p.layout p.placed };
 
-    ghost invariant = { λ p. IsPlanShape (shape p.part) × IsSomePlan (record { part = p.part; layout = p.layout; sums = p.placed }) };
+    ghost invariant = { λ p. IsPlan p.part p.layout p.placed };
 }
 
 impl Plan {
-    ghost use Rattle.std.specs.Prelude.{◌≡◌, ◌↔◌, true, IsTrue, IfOk, IfErr, OnOk, OnErr, length};
+    ghost use Rattle.std.specs.Prelude.{◌≡◌, IfOk, IfErr, OnOk, OnErr, length};
     ghost use Rattle.abi_layout.specs.Trees.{tree};
     ghost use Rattle.abi_layout.specs.Faults.{IsFault, desc_fault};
-    ghost use Rattle.abi_layout.specs.PartView.{shape};
-    ghost use Rattle.abi_pack.specs.Edits.{IsEdit, IsRefused};
-    ghost use Rattle.abi_pack.specs.Packed.{packed};
     ghost use Rattle.abi_pack.specs.Packing.{IsPlanOf, OfPlan};
-    ghost use Rattle.abi_pack.specs.Reading.{IsShown, IsReading};
-    ghost use Rattle.abi_pack.specs.Values.{fits, IsImageOf};
-    ghost use Rattle.abi_pack.specs.View.{plain};
+    ghost use Rattle.abi_pack.specs.PlanCalls.{TellsFit, IsFit, AreBytesFor, packed_by, AreShownBy, TellsShown, TellsManyShown, IsEditBy, IsRefusedBy};
+    ghost use Rattle.abi_pack.specs.Reading.{IsReading};
 
     /// The plan of a description on a target. Refused as `layout_of` is.
     pub fn of(alloc: Global, target: &Target, desc: &Desc) -> Result<Plan, DescError>
@@ -112,7 +106,7 @@ impl Plan {
 
     /// Whether the value is one of the description. Takes no memory.
     pub fn fits(&self, value: &Value) -> bool
-        ensures { OfPlan self.now (λ rules target t. result ≡ fits rules target t (plain value.now)) }
+        ensures { TellsFit self.now value.now result }
     {
         fits(&self.part, value)
     }
@@ -120,17 +114,17 @@ impl Plan {
     /// Writes the canonical bytes of the value, whatever stood there: they show the value, and every bit that it
     /// does not hold is 0. The value must fit, and `out` must be as long as the layout's size. Takes no memory.
     pub fn write(&self, value: &Value, out: &mut [u8])
-        requires fits { OfPlan self.now (λ rules target t. fits rules target t (plain value.now) ≡ true) }
+        requires fits { IsFit self.now value.now }
         requires room { length out.old ≡ self.now.layout.size }
-        ensures { OfPlan self.now (λ rules target t. IsImageOf rules target t (plain value.now) out.new) }
+        ensures { AreBytesFor self.now value.now out.new }
     {
         write(&self.part, value, out);
     }
 
     /// The canonical bytes of the value, which must fit.
     pub(crate) fn packed(&self, alloc: Global, value: &Value) -> Result<Vec<u8>, OutOfMemory>
-        requires fits { OfPlan self.now (λ rules target t. fits rules target t (plain value.now) ≡ true) }
-        ensures bytes { IfOk result (λ bytes. bytes.items ≡ packed (shape self.now.part) (plain value.now)) }
+        requires fits { IsFit self.now value.now }
+        ensures bytes { IfOk result (λ bytes. bytes.items ≡ packed_by self.now value.now) }
     {
         let bytes = packed(alloc, &self.part, value)?;
         Ok(bytes)
@@ -149,7 +143,7 @@ impl Plan {
 
     /// Whether there are as many bytes as the layout's size, and they show a value. Takes no memory.
     pub fn shown(&self, bytes: &[u8]) -> bool
-        ensures { OfPlan self.now (λ rules target t. IsTrue result ↔ IsShown rules target t bytes.now) }
+        ensures { TellsShown self.now bytes.now result }
     {
         if bytes.len() != size(&self.part) {
             return false;
@@ -157,13 +151,24 @@ impl Plan {
         is_shown(&self.part, bytes, 0)
     }
 
+    /// Whether more than `MAX_VALUES` values are in the one that the bytes show, itself among them. Of bytes that show
+    /// no value it tells nothing. Takes no memory, and ends where it has counted so many.
+    pub fn shows_many(&self, bytes: &[u8]) -> bool
+        ensures { TellsManyShown self.now bytes.now result }
+    {
+        if bytes.len() != size(&self.part) {
+            return false;
+        }
+        MAX_VALUES < values(&self.part, bytes, 0, 0)
+    }
+
     /// Puts the value in place of the part at the path, in bytes that show a value: they then show the edited value,
     /// with 0 at every bit of the part's bytes that it does not hold, and no byte beside these changes. Refused where
     /// the path leads nowhere or the value is none of the part's; the bytes are then as they were. Takes no memory.
     pub fn edit(&self, bytes: &mut [u8], path: &[Step], value: &Value) -> Result<(), EditError>
-        requires shown { OfPlan self.now (λ rules target t. IsShown rules target t bytes.old) }
-        ensures ok { OnOk result (OfPlan self.now (λ rules target t. IsEdit rules target t path.now (plain value.now) bytes.old bytes.new)) }
-        ensures err { IfErr result (λ error. OfPlan self.now (λ rules target t. IsRefused rules target t path.now (plain value.now) bytes.old error)) }
+        requires shown { AreShownBy self.now bytes.old }
+        ensures ok { OnOk result (IsEditBy self.now path.now value.now bytes.old bytes.new) }
+        ensures err { IfErr result (IsRefusedBy self.now path.now value.now bytes.old) }
         ensures unchanged { OnErr result (bytes.new ≡ bytes.old) }
     {
         are_bytes(bytes);
@@ -176,18 +181,18 @@ impl Plan {
         }
     }
 
-    /// The value that the bytes show.
+    /// The value that the bytes show. Values are counted first, so that no more than `MAX_VALUES` are ever looked at.
     pub fn read(&self, alloc: Global, bytes: &[u8]) -> Result<Value, ReadError>
         ensures { OfPlan self.now (λ rules target t. IsReading rules target t bytes.now result) }
     {
         if bytes.len() != size(&self.part) {
             return Err(ReadError::WrongLength);
         }
+        if self.shows_many(bytes) {
+            return Err(ReadError::OutOfMemory);
+        }
         if !is_shown(&self.part, bytes, 0) {
             return Err(ReadError::IllegalBytes);
-        }
-        if MAX_VALUES < values(&self.part, bytes, 0, 0) {
-            return Err(ReadError::OutOfMemory);
         }
         match read(alloc, &self.part, bytes, 0) {
             Ok(value) => Ok(value),

@@ -1,11 +1,11 @@
 //! Bytes that are taken as they stand, but for free bits.
-ghost use Rattle.std.specs.Prelude.{◌≡◌, ◌+◌, ◌≤◌, ◌<◌, true, IsTrue, IfOk, length, slice_index};
+ghost use Rattle.std.specs.Prelude.{◌≡◌, ◌+◌, ◌≤◌, ◌<◌, true, IsTrue, IfOk, length};
 ghost use Rattle.abi_bits.specs.Forbidden.{items, are_items_below};
 ghost use Rattle.abi_layout.specs.Shape.{raw};
 ghost use Rattle.abi_pack.specs.Atoms.{has_value};
-ghost use Rattle.abi_pack.specs.ByteMap.{seen_from};
-ghost use Rattle.abi_pack.specs.Plain.{bytes as bytes_value, is_bytes, bytes_in};
-ghost use Rattle.abi_pack.specs.Raw.{are_clear, are_raw, match_none, cleared};
+ghost use Rattle.abi_pack.specs.ByteMap.{seen_in};
+ghost use Rattle.abi_pack.specs.Plain.{is_bytes, bytes_in};
+ghost use Rattle.abi_pack.specs.Raw.{are_clear, are_raw, bytes_shown, match_none};
 ghost use Rattle.abi_pack.specs.View.{plain};
 
 use crate::value::Value;
@@ -68,7 +68,7 @@ pub(crate) fn write(value: &Value, out: &mut [u8])
 pub(crate) fn is_legal(size: u64, forbidden: &ForbiddenValues, bytes: &[u8], at: usize) -> bool
     requires within { at + size ≤ length bytes.now }
     requires below { IsTrue (are_items_below size (items forbidden.now)) }
-    ensures { result ≡ match_none (items forbidden.now) (seen_from at (slice_index bytes.now)) }
+    ensures { result ≡ match_none (items forbidden.now) (seen_in bytes.now at) }
 {
     !forbidden.is_invalid(&bytes[at..at + size as usize])
 }
@@ -82,7 +82,7 @@ pub(crate) fn value_shown(
     at: usize,
 ) -> Result<Value, OutOfMemory>
     requires within { at + size ≤ length bytes.now }
-    ensures { IfOk result (λ v. plain v ≡ bytes_value (cleared free.now size (seen_from at (slice_index bytes.now)))) }
+    ensures { IfOk result (λ v. plain v ≡ bytes_shown free.now size (seen_in bytes.now at)) }
 {
     let mut cleared = Items::new(alloc);
     for i in 0..size {

@@ -1,12 +1,13 @@
-ghost use Rattle.std.specs.Prelude.{◌≡◌, true, false, ◌+◌, ◌≤◌, ◌<◌, ◌^◌, IfOk, OnOk, length, slice_index};
-ghost use Rattle.abi_pack.specs.ByteMap.{seen_from};
-ghost use Rattle.abi_pack.specs.Plain.{unit, variant, end};
-ghost use Rattle.abi_layout.specs.Shape.{size, size_in, repeated};
+ghost use Rattle.std.specs.Prelude.{◌≡◌, true, false, ◌+◌, ◌≤◌, ◌<◌, ◌^◌, IfOk, OnOk, length};
+ghost use Rattle.abi_pack.specs.ByteMap.{seen_in};
+ghost use Rattle.abi_pack.specs.Plain.{unit, variant};
+ghost use Rattle.abi_layout.specs.Shape.{size, size_in};
+ghost use Rattle.abi_pack.specs.Reading.{AreRead};
 ghost use Rattle.abi_pack.specs.Shows.{same_sort};
 ghost use Rattle.abi_pack.specs.Consistent.{IsConsistent, AreConsistent};
 ghost use Rattle.abi_layout.specs.Plans.{IsNamed, AreNamed};
-ghost use Rattle.abi_pack.specs.ValueShown.{value_shown, values_shown};
-ghost use Rattle.abi_pack.specs.View.{shape, shapes, plain, joined};
+ghost use Rattle.abi_pack.specs.ValueShown.{value_shown};
+ghost use Rattle.abi_pack.specs.View.{items_of, shape, shapes, plain};
 
 use crate::sides::{side, size, start};
 use crate::value::{Value, Values};
@@ -27,7 +28,7 @@ pub(crate) fn read(
     requires named { IsNamed (shape part.now) }
     requires small { length bytes.now < 2 ^ 32 }
     requires within { at + size (shape part.now) ≤ length bytes.now }
-    ensures { IfOk result (λ v. plain v ≡ value_shown (shape part.now) (seen_from at (slice_index bytes.now))) }
+    ensures { IfOk result (λ v. plain v ≡ value_shown (shape part.now) (seen_in bytes.now at)) }
 {
     match part {
         Part::Scalar(scalar) => Ok(scalars::value_shown(scalar, bytes, at)),
@@ -73,7 +74,7 @@ fn read_all(
     requires named { AreNamed (shapes fields.now) }
     requires small { length bytes.now < 2 ^ 32 }
     requires within { at + size_in (shapes fields.now) ≤ length bytes.now }
-    ensures { OnOk result (joined values.new end ≡ joined values.old (values_shown (shapes fields.now) (seen_from at (slice_index bytes.now)))) }
+    ensures { OnOk result (AreRead (shapes fields.now) bytes.now at values.old values.new) }
 {
     match fields.split_first() {
         Some((field, fields)) => {
@@ -99,11 +100,11 @@ fn read_each(
     at: usize,
     values: &mut Values,
 ) -> Result<(), OutOfMemory>
-    requires sound { AreConsistent (repeated len (shape item.now)) }
-    requires named { AreNamed (repeated len (shape item.now)) }
+    requires sound { AreConsistent (items_of len item.now) }
+    requires named { AreNamed (items_of len item.now) }
     requires small { length bytes.now < 2 ^ 32 }
-    requires within { at + size_in (repeated len (shape item.now)) ≤ length bytes.now }
-    ensures { OnOk result (joined values.new end ≡ joined values.old (values_shown (repeated len (shape item.now)) (seen_from at (slice_index bytes.now)))) }
+    requires within { at + size_in (items_of len item.now) ≤ length bytes.now }
+    ensures { OnOk result (AreRead (items_of len item.now) bytes.now at values.old values.new) }
 {
     if len == 0 {
         return Ok(());

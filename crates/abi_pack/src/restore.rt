@@ -1,8 +1,7 @@
-ghost use Rattle.std.specs.Prelude.{◌≡◌, ◌+◌, ◌<◌, ◌^◌, IsTrue, length};
+ghost use Rattle.std.specs.Prelude.{◌≡◌, ◌+◌, ◌<◌, ◌^◌, IsTrue, Some, length};
 ghost use Rattle.abi_bits.specs.Pairs.{are_below};
 ghost use Rattle.abi_det.specs.State.{IsCovered};
-ghost use Rattle.abi_pack.specs.ShapeEdits.{bytes_from, is_inside, put_inside, imposed_inside};
-ghost use Rattle.abi_pack.specs.Shows.{sign_of};
+ghost use Rattle.abi_pack.specs.ShapeEdits.{bytes_from, range_told, is_inside, put_inside, restored_as};
 
 use crate::sides::name_variant;
 use abi_det::Test;
@@ -29,7 +28,7 @@ impl Replaced {
 pub(crate) fn restore(sum_layout: &SumLayout, first: bool, range: Replaced, out: &mut [u8])
     requires covered { IsCovered sum_layout.now.determinant.test (length out.old) }
     requires small { range.start + range.size < 2 ^ 32 }
-    ensures { out.new ≡ imposed_inside (bytes_from range.start range.size) sum_layout.now.determinant.test (sign_of sum_layout.now first) out.old }
+    ensures { out.new ≡ restored_as sum_layout.now (range_told range) out.old (Some first) }
 {
     match &sum_layout.determinant.test {
         Test::BitDeterminant => {
@@ -54,7 +53,7 @@ pub(crate) fn restore(sum_layout: &SumLayout, first: bool, range: Replaced, out:
 fn put_inside(pairs: &[(u64, u8)], range: Replaced, out: &mut [u8])
     requires below { IsTrue (are_below (length out.old) pairs.now) }
     requires small { range.start + range.size < 2 ^ 32 }
-    ensures { out.new ≡ put_inside (bytes_from range.start range.size) pairs.now out.old }
+    ensures { out.new ≡ put_inside (range_told range) pairs.now out.old }
 {
     for (offset, byte) in pairs {
         if range.has(*offset as usize) {

@@ -1,7 +1,7 @@
-ghost use Rattle.std.specs.Prelude.{◌≡◌, true, ◌+◌, ◌<◌, ◌≤◌, length, slice_index};
+ghost use Rattle.std.specs.Prelude.{◌≡◌, true, ◌+◌, ◌<◌, ◌≤◌, length};
 ghost use Rattle.abi_layout.specs.Prims.{scalar_size};
 ghost use Rattle.abi_pack.specs.Scalars.{full, is_value, stored, is_legal, scalar_shown, order_byte, order_shown, number_in as number_there};
-ghost use Rattle.abi_pack.specs.ByteMap.{seen_from};
+ghost use Rattle.abi_pack.specs.ByteMap.{seen_in};
 ghost use Rattle.abi_pack.specs.View.{plain};
 
 use crate::integer::{has_integer, integer_shown, number_in, write_integer};
@@ -52,7 +52,7 @@ pub(crate) fn write(scalar: &Scalar, value: &Value, out: &mut [u8])
 /// Whether the bytes from `at` on are those of some value of the scalar.
 pub(crate) fn is_legal(scalar: &Scalar, bytes: &[u8], at: usize) -> bool
     requires { at + scalar_size scalar.now ≤ length bytes.now }
-    ensures { result ≡ is_legal scalar.now (seen_from at (slice_index bytes.now)) }
+    ensures { result ≡ is_legal scalar.now (seen_in bytes.now at) }
 {
     match scalar {
         Scalar::Unit => true,
@@ -68,7 +68,7 @@ pub(crate) fn is_legal(scalar: &Scalar, bytes: &[u8], at: usize) -> bool
 /// The value that the bytes from `at` on show; they are legal.
 pub(crate) fn value_shown(scalar: &Scalar, bytes: &[u8], at: usize) -> Value
     requires { at + scalar_size scalar.now ≤ length bytes.now }
-    ensures { plain result ≡ scalar_shown scalar.now (seen_from at (slice_index bytes.now)) }
+    ensures { plain result ≡ scalar_shown scalar.now (seen_in bytes.now at) }
 {
     match scalar {
         Scalar::Unit => Value::Unit,
@@ -103,7 +103,7 @@ fn order_shown(byte: u8) -> Ordering
 /// The number that stands in the bytes from `at` on.
 fn number_at(integer: &Integer, bytes: &[u8], at: usize) -> u128
     requires { at + scalar_size (Scalar.Int integer.now) ≤ length bytes.now }
-    ensures same { result ≡ number_there integer.now (seen_from at (slice_index bytes.now)) }
+    ensures same { result ≡ number_there integer.now (seen_in bytes.now at) }
     ensures small { result < full integer.now.width }
 {
     let size = integer.width.bytes() as usize;

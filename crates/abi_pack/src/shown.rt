@@ -1,9 +1,9 @@
-ghost use Rattle.std.specs.Prelude.{◌≡◌, ◌+◌, ◌*◌, ◌≤◌, ◌<◌, ◌^◌, length, slice_index};
-ghost use Rattle.abi_pack.specs.ByteMap.{seen_from};
-ghost use Rattle.abi_layout.specs.Shape.{size, size_in, repeated};
+ghost use Rattle.std.specs.Prelude.{◌≡◌, ◌+◌, ◌*◌, ◌≤◌, ◌<◌, ◌^◌, length};
+ghost use Rattle.abi_pack.specs.ByteMap.{seen_in};
+ghost use Rattle.abi_layout.specs.Shape.{size, size_in};
 ghost use Rattle.abi_pack.specs.Consistent.{IsConsistent, AreConsistent};
-ghost use Rattle.abi_pack.specs.ValueShown.{is_shown, is_shown_in, at_each};
-ghost use Rattle.abi_pack.specs.View.{shape, shapes};
+ghost use Rattle.abi_pack.specs.ValueShown.{is_shown, is_shown_in, shown_at_each, all_shown_at_each};
+ghost use Rattle.abi_pack.specs.View.{items_of, shape, shapes};
 
 use crate::sides::{side, size, start};
 use crate::{raw, scalars};
@@ -15,7 +15,7 @@ pub(crate) fn is_shown(part: &Part, bytes: &[u8], at: usize) -> bool
     requires sound { IsConsistent (shape part.now) }
     requires small { length bytes.now < 2 ^ 32 }
     requires within { at + size (shape part.now) ≤ length bytes.now }
-    ensures { result ≡ is_shown (shape part.now) (seen_from at (slice_index bytes.now)) }
+    ensures { result ≡ is_shown (shape part.now) (seen_in bytes.now at) }
 {
     match part {
         Part::Scalar(scalar) => scalars::is_legal(scalar, bytes, at),
@@ -45,7 +45,7 @@ fn are_shown(fields: &[PartField], bytes: &[u8], at: usize) -> bool
     requires sound { AreConsistent (shapes fields.now) }
     requires small { length bytes.now < 2 ^ 32 }
     requires within { at + size_in (shapes fields.now) ≤ length bytes.now }
-    ensures { result ≡ is_shown_in (shapes fields.now) (seen_from at (slice_index bytes.now)) }
+    ensures { result ≡ is_shown_in (shapes fields.now) (seen_in bytes.now at) }
 {
     match fields.split_first() {
         Some((field, fields)) => {
@@ -62,10 +62,10 @@ fn are_shown(fields: &[PartField], bytes: &[u8], at: usize) -> bool
 #[cycle(shown)]
 #[tactic(auto, using(crate::proofs::Rows::row_nodes, crate::proofs::Rows::row_sound, crate::proofs::Rows::row_one_size, crate::proofs::Rows::row_size))]
 fn each_shown(item: &Part, len: u64, bytes: &[u8], at: usize) -> bool
-    requires sound { AreConsistent (repeated len (shape item.now)) }
+    requires sound { AreConsistent (items_of len item.now) }
     requires small { length bytes.now < 2 ^ 32 }
-    requires within { at + size_in (repeated len (shape item.now)) ≤ length bytes.now }
-    ensures { result ≡ is_shown_in (repeated len (shape item.now)) (seen_from at (slice_index bytes.now)) }
+    requires within { at + size_in (items_of len item.now) ≤ length bytes.now }
+    ensures { result ≡ is_shown_in (items_of len item.now) (seen_in bytes.now at) }
 {
     if len == 0 {
         return true;
@@ -84,7 +84,7 @@ fn spaced_shown(part: &Part, count: u64, stride: usize, bytes: &[u8], at: usize)
     requires apart { size (shape part.now) ≤ stride }
     requires near { stride ≤ length bytes.now }
     requires within { at + count * stride + size (shape part.now) ≤ length bytes.now + stride }
-    ensures { result ≡ at_each count stride (is_shown (shape part.now)) (seen_from at (slice_index bytes.now)) }
+    ensures { result ≡ shown_at_each count stride (shape part.now) (seen_in bytes.now at) }
 {
     if size(part) == 0 {
         return is_shown(part, bytes, at);
@@ -121,8 +121,8 @@ fn spaced_fields_shown(
     requires some { 0 < count }
     requires apart { size_in (shapes fields.now) ≤ stride }
     requires near { stride ≤ length bytes.now }
-    requires within { at + count * stride + size_in (shapes fields.now) ≤ length bytes.now + stride }
-    ensures { result ≡ at_each count stride (is_shown_in (shapes fields.now)) (seen_from at (slice_index bytes.now)) }
+    requires room { at + count * stride + size_in (shapes fields.now) ≤ length bytes.now + stride }
+    ensures { result ≡ all_shown_at_each count stride (shapes fields.now) (seen_in bytes.now at) }
 {
     match fields.split_first() {
         Some((field, fields)) => {
@@ -143,7 +143,7 @@ fn shown_in_turn(part: &Part, count: u64, stride: usize, bytes: &[u8], at: usize
     requires small { length bytes.now < 2 ^ 32 }
     requires near { stride ≤ length bytes.now }
     requires within { at + count * stride + size (shape part.now) ≤ length bytes.now + stride }
-    ensures { result ≡ at_each count stride (is_shown (shape part.now)) (seen_from at (slice_index bytes.now)) }
+    ensures { result ≡ shown_at_each count stride (shape part.now) (seen_in bytes.now at) }
 {
     let mut start = at;
     for i in 0..count {

@@ -1,7 +1,8 @@
 ghost use Rattle.std.specs.Prelude.{◌≡◌, ◌<◌, ◌^◌, length};
-ghost use Rattle.abi_det.specs.State.{IsCovered, imposed};
+ghost use Rattle.abi_det.specs.State.{IsCovered};
 ghost use Rattle.abi_layout.specs.Shape.{size};
-ghost use Rattle.abi_pack.specs.Shows.{same_sort, start_of, sign_of};
+ghost use Rattle.abi_pack.specs.Packed.{naming};
+ghost use Rattle.abi_pack.specs.Shows.{same_sort, start_of};
 ghost use Rattle.abi_layout.specs.Trees.{sides};
 ghost use Rattle.abi_pack.specs.View.{shape};
 
@@ -38,7 +39,7 @@ pub(crate) fn start(sum_layout: &SumLayout, first: bool) -> usize
 /// Makes the bytes of a sum name the variant.
 pub(crate) fn name_variant(sum_layout: &SumLayout, first: bool, out: &mut [u8])
     requires { IsCovered sum_layout.now.determinant.test (length out.old) }
-    ensures { out.new ≡ imposed sum_layout.now.determinant.test (sign_of sum_layout.now first) out.old }
+    ensures { out.new ≡ naming sum_layout.now first out.old }
 {
     if first {
         sum_layout.determinant.ok(out);

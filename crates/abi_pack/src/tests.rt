@@ -526,7 +526,7 @@ fn items_without_bytes_are_read_up_to_a_number(rt: HostRuntime) {
         fields.push(field).expect(&rt, "memory");
     }
     let together = plan(&rt, alloc, "le64", &record(&rt, alloc, fields, None));
-    assert!(rt; together.shown(&[]));
+    assert!(rt; together.shown(&[]) && together.shows_many(&[]) && !few.shows_many(&[]));
     assert!(rt; matches!(together.read(alloc, &[]), Err(ReadError::OutOfMemory)));
 }
 

@@ -1,9 +1,9 @@
 ghost use Rattle.std.specs.Prelude.{◌≡◌, true, ◌+◌, ◌≤◌, ◌<◌, ◌^◌, length, IfOk};
-ghost use Rattle.abi_pack.specs.Packed.{packed, packed_in, zero_padded};
-ghost use Rattle.abi_layout.specs.Shape.{size, size_in, repeated};
+ghost use Rattle.abi_pack.specs.Packed.{packed, packed_at, packed_in};
+ghost use Rattle.abi_layout.specs.Shape.{size, size_in};
 ghost use Rattle.abi_pack.specs.Shows.{fits, fits_in};
 ghost use Rattle.abi_pack.specs.Consistent.{IsConsistent, AreConsistent};
-ghost use Rattle.abi_pack.specs.View.{shape, shapes, plain, plains};
+ghost use Rattle.abi_pack.specs.View.{items_of, shape, shapes, plain, plains};
 
 use crate::sides::{name_variant, side, size, start};
 use crate::value::Value;
@@ -67,7 +67,7 @@ fn write_at(part: &Part, value: &Value, shift: usize, out: &mut [u8])
     requires small { length out.old < 2 ^ 32 }
     requires fits { fits (shape part.now) (plain value.now) ≡ true }
     requires room { shift + size (shape part.now) ≤ length out.old }
-    ensures { out.new ≡ zero_padded (length out.old) shift (size (shape part.now)) (packed (shape part.now) (plain value.now)) }
+    ensures { out.new ≡ packed_at (length out.old) shift (shape part.now) (plain value.now) }
 {
     let (before, rest) = out.split_at_mut(shift);
     before.fill(0);
@@ -101,11 +101,11 @@ fn write_all(fields: &[PartField], values: &[Value], out: &mut [u8])
 /// Writes the `len` values one after another, and zeros after them.
 #[cycle(write)]
 fn write_each(item: &Part, len: u64, values: &[Value], out: &mut [u8])
-    requires sound { AreConsistent (repeated len (shape item.now)) }
+    requires sound { AreConsistent (items_of len item.now) }
     requires small { length out.old < 2 ^ 32 }
-    requires fits { fits_in (repeated len (shape item.now)) (plains values.now) ≡ true }
-    requires room { size_in (repeated len (shape item.now)) ≤ length out.old }
-    ensures { out.new ≡ packed_in (length out.old) (repeated len (shape item.now)) (plains values.now) }
+    requires fits { fits_in (items_of len item.now) (plains values.now) ≡ true }
+    requires room { size_in (items_of len item.now) ≤ length out.old }
+    ensures { out.new ≡ packed_in (length out.old) (items_of len item.now) (plains values.now) }
 {
     if out.is_empty() {
         return;

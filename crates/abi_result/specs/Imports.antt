@@ -14,7 +14,8 @@ abbrev pub Leaves : (R : RattleType) → MutBor R.Denot → (R.Denot → Type 0)
 Leaves R s P = follows_so R R s.ghost_name none (λ _ _. ⊤) P
 
 -- the loader was asked where there was no outcome, and nothing changed where there was one
-pub record Asked {F L : Type 0} (askings refusals : L → ℕ) (before after : CheckedImport F L) : Type 0 where
+pub record Asked {F L : Type 0} (askings refusals : L → ℕ) (before after : CheckedImport F L)
+    : Type 0 where
   pub first : before.outcome ≡ Unasked → Rose (askings before.loader) (askings after.loader)
   pub later : before.outcome ≢ Unasked → after ≡ before
   pub cause : after.outcome ≡ Refused
@@ -29,8 +30,8 @@ abbrev pub IsLent : {F L : Type 0} → CheckedImport F L → Bor F → Type 0
 IsLent after import = after.outcome ≡ Loaded import.now
 
 -- the loader refused, and the mismatch carries the import's own report and that of the loader
-pub record IsMismatch {F L : Type 0} (loaded : L → TypeReport) (after : CheckedImport F L) (mismatch : ReportMismatch)
-    : Type 0 where
+pub record IsMismatch {F L : Type 0} (loaded : L → TypeReport) (after : CheckedImport F L)
+    (mismatch : ReportMismatch) : Type 0 where
   pub refused : after.outcome ≡ Refused
   pub own : mismatch.local.now ≡ after.local
   pub other : mismatch.loaded.now ≡ loaded after.loader

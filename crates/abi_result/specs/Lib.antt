@@ -1,2 +1,10 @@
+pub mod Calls
 pub mod Counts
+pub mod Fed
 pub mod Imports
+pub mod Lending
+pub mod Stable
+pub mod StableLaws
+pub mod Storage
+pub mod Sums
+pub mod Wrappers

@@ -5,10 +5,12 @@ pub mod Faults
 pub mod Faultless
 pub mod Known
 pub mod LaysOut
+pub mod Made
 pub mod Outcomes
 pub mod Packs
 pub mod ReadingLemmas
 pub mod ReplyMeans
 pub mod ReplyToBytes
 pub mod Showing
+pub mod Sums
 pub mod Tasks

@@ -1,13 +1,15 @@
 -- The lines that the program writes. Numbers are decimal.
-use Rattle.std.specs.Prelude.{◌≡◌, ℕ, ◌^◌, List, [], ◌∷◌, ◌++◌, Bool, true, false, nat_le, nat_lt, codes, decimal, flat_map, if◌then◌else◌, String, string_bytes}
+use Rattle.std.specs.Prelude.{◌≡◌, ℕ, ◌^◌, List, [], ◌∷◌, ◌++◌, Bool, true, false, nat_le, nat_lt, codes, count_ones, decimal, flat_map, length, map, if◌then◌else◌, String, string_bytes}
 use Rattle.std.specs.declared.cmp.Ordering.{Ordering}
 use Rattle.std.specs.declared.cmp.Ordering.TheVariants as ordering
 use Rattle.std.specs.declared.alloc.Global.{Global}
 use Rattle.std.specs.Int.{w64, to_be_bytes}
+use Rattle.std.specs.List.{range_with_len, sum}
 use Rattle.hex.specs.Hex.{encode_lower}
 use Rattle.abi_report.specs.Reports.{ReportTree}
 use Rattle.abi_report.specs.Texts.{text}
 use Rattle.abi_bits.specs.Pairs.{Pair}
+use Rattle.abi_bits.specs.Mask.{mask_at}
 use Rattle.abi_bits.specs.Forbidden.{Item, pattern, range}
 use Rattle.abi_bits.specs.declared.saturating_add_value.SaturatingAddValue.{SaturatingAddValue}
 use Rattle.abi_bits.specs.declared.saturating_add_value.SaturatingAddValue.TheVariants as count
@@ -29,6 +31,10 @@ use Rattle.abi_tool.specs.declared.fault.Fault.TheVariants as fault
 abbrev pub Adds : String Global → String Global → List ℕ → Type 0
 Adds old new text = string_bytes new ≡ string_bytes old ++ text
 
+abbrev pub yes_or_no : Bool → List ℕ
+yes_or_no true = codes "yes"
+yes_or_no false = codes "no"
+
 -- ---- a layout
 
 unfoldable pub size_line : ℕ → List ℕ
@@ -46,7 +52,7 @@ unfoldable pub niches_line : SaturatingAddValue → List ℕ
 niches_line niches = codes "niches " ++ niches_text niches ++ codes "\n"
 
 unfoldable pub indirections_line : Bool → List ℕ
-indirections_line indirections = codes "indirections " ++ (if indirections then codes "yes" else codes "no") ++ codes "\n"
+indirections_line indirections = codes "indirections " ++ yes_or_no indirections ++ codes "\n"
 
 -- an offset and a mask
 abbrev pub entry_text : Pair → List ℕ
@@ -72,7 +78,8 @@ pairs_text (p ∷ ps) = pair_text p ++ more_pairs_text ps
 
 unfoldable pub item_text : Item → List ℕ
 item_text (pattern ps) = codes " " ++ pairs_text ps
-item_text (range at least greatest) = codes " " ++ decimal at ++ codes "=" ++ decimal least ++ codes "-" ++ decimal greatest
+item_text (range at least greatest) =
+    codes " " ++ decimal at ++ codes "=" ++ decimal least ++ codes "-" ++ decimal greatest
 
 unfoldable pub items_text : List Item → List ℕ
 items_text its = flat_map item_text its
@@ -82,8 +89,8 @@ forbidden_line its = codes "forbidden" ++ items_text its ++ codes "\n"
 
 unfoldable pub layout_lines : Frame → List ℕ
 layout_lines f =
-    size_line f.size ++ align_line f.align ++ niches_line f.niches ++ indirections_line f.indirections
-    ++ free_line f.free ++ forbidden_line f.forbids
+    size_line f.size ++ align_line f.align ++ niches_line f.niches
+    ++ indirections_line f.indirections ++ free_line f.free ++ forbidden_line f.forbids
 
 -- ---- sums
 
@@ -97,16 +104,19 @@ side_text kind.Tag = codes "larger "
 unfoldable pub niche_text : Kind → Test → List ℕ
 niche_text k test.BitDeterminant = codes "tag"
 niche_text k (test.ValueIsErr ps) = side_text k ++ pairs_text ps
-niche_text k (test.BitIsErr offset mask) = codes "bit " ++ decimal offset ++ codes ":" ++ decimal mask
+niche_text k (test.BitIsErr offset mask) =
+    codes "bit " ++ decimal offset ++ codes ":" ++ decimal mask
 
 -- the variant that the present niche, the set bit or a tag of 1 means
 unfoldable pub meaning_text : Bool → List ℕ
-meaning_text means_ok = codes " means " ++ (if means_ok then codes "ok" else codes "err") ++ codes "\n"
+meaning_text means_ok =
+    codes " means " ++ (if means_ok then codes "ok" else codes "err") ++ codes "\n"
 
 unfoldable pub places_text : Placed → List ℕ
 places_text p =
-    codes "sum " ++ decimal p.part ++ codes " place " ++ decimal p.place ++ codes " front " ++ decimal p.front
-    ++ codes " ok " ++ decimal p.ok_shift ++ codes " err " ++ decimal p.err_shift ++ codes " "
+    codes "sum " ++ decimal p.part ++ codes " place " ++ decimal p.place
+    ++ codes " front " ++ decimal p.front ++ codes " ok " ++ decimal p.ok_shift
+    ++ codes " err " ++ decimal p.err_shift ++ codes " "
 
 unfoldable pub sum_line : Placed → List ℕ
 sum_line p = places_text p ++ niche_text p.kind p.determinant.test ++ meaning_text p.determinant.not
@@ -161,12 +171,14 @@ numeral_text magnitude negative = (if negative then codes "-" else []) ++ decima
 
 -- a number of JSON lies from -2^63 to 2^64 - 1
 abbrev pub is_number : ℕ → Bool → Bool
-is_number magnitude negative = if negative then nat_le magnitude (2 ^ 63) else nat_lt magnitude (2 ^ 64)
+is_number magnitude negative =
+    if negative then nat_le magnitude (2 ^ 63) else nat_lt magnitude (2 ^ 64)
 
 -- other integers are texts
 unfoldable pub integer_text : ℕ → Bool → List ℕ
 integer_text magnitude negative =
-    if is_number magnitude negative then numeral_text magnitude negative else quoted (numeral_text magnitude negative)
+    if is_number magnitude negative then numeral_text magnitude negative
+    else quoted (numeral_text magnitude negative)
 
 unfoldable pub truth_text : Bool → List ℕ
 truth_text truth = if truth then codes "true" else codes "false"
@@ -222,6 +234,26 @@ report_line r = codes "report " ++ text r ++ codes "\n"
 -- a report with its identifier
 unfoldable pub report_text : ℕ → ReportTree → List ℕ
 report_text id r = id_line id ++ report_line r
+
+-- ---- a made job
+
+unfoldable pub number_line : List ℕ → ℕ → List ℕ
+number_line word n = word ++ codes " " ++ decimal n ++ codes "\n"
+
+-- how many bits of a layout are free: those of each of its bytes
+unfoldable pub free_bits : Frame → ℕ
+free_bits f = sum (map (λ at. count_ones (mask_at f.free at)) (range_with_len 0 f.size))
+
+unfoldable pub back_line : Bool → List ℕ
+back_line back = codes "back " ++ yes_or_no back ++ codes "\n"
+
+-- its number of fields, what its image has, and whether reading gives its value again
+unfoldable pub made_text : ℕ → Bool → Image → List ℕ
+made_text k back image =
+    number_line (codes "made") k ++ number_line (codes "size") image.layout.size
+    ++ number_line (codes "free") (free_bits image.layout)
+    ++ number_line (codes "sums") (length image.placed)
+    ++ number_line (codes "total") (sum image.bytes) ++ back_line back
 
 -- ---- refusals of a job
 

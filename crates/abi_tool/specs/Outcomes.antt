@@ -1,5 +1,5 @@
 -- What comes of a job: a text, or the job's first fault. Each command has one definition of it.
-use Rattle.std.specs.Prelude.{◌≡◌, ◌==◌, ℕ, List, Option, Some, None, Result, Ok, Err, length, option_and_then, if◌then◌else◌}
+use Rattle.std.specs.Prelude.{◌≡◌, ◌==◌, ℕ, List, true, Option, Some, None, Result, Ok, Err, length, option_and_then, if◌then◌else◌}
 use Rattle.abi_num.specs.declared.target.Target.{Target}
 use Rattle.abi_det.specs.Offers.{One}
 use Rattle.abi_layout.specs.Faults.{desc_fault}
@@ -15,10 +15,12 @@ use Rattle.abi_pack.specs.Plain.{Plain}
 use Rattle.abi_pack.specs.Reading.{value_read}
 use Rattle.abi_pack.specs.declared.abi_error.AbiError.{AbiError}
 use Rattle.abi_pack.specs.declared.abi_error.AbiError.TheVariants as found
+use Rattle.abi_pack.specs.declared.image.Image.{Image}
 use Rattle.abi_pack.specs.declared.plan.ReadError.{ReadError}
 use Rattle.abi_pack.specs.declared.plan.ReadError.TheVariants as unread
 use Rattle.abi_document.specs.Documents.{Task, pack, layout, read, edit, report, PlainJob}
-use Rattle.abi_tool.specs.Lines.{image_text, layout_text, value_line, bytes_line, report_text}
+use Rattle.abi_document.specs.Made.{le64, made_desc, made_value}
+use Rattle.abi_tool.specs.Lines.{image_text, layout_text, value_line, bytes_line, report_text, made_text}
 use Rattle.abi_tool.specs.declared.fault.Fault.{Fault}
 use Rattle.abi_tool.specs.declared.fault.Fault.TheVariants as fault
 use Rattle.abi_tool.specs.declared.job_error.JobError.{JobError}
@@ -71,17 +73,23 @@ abbrev pub pack_fault : Target → Tree → Plain → List PlainEdit → Option 
 pack_fault target t v es = packing_fault (job_fault One target t v es)
 
 -- the lines of the image of the value that the edits leave
+abbrev pub packed_text : Target → Tree → Plain → List PlainEdit → List ℕ
+packed_text target t v es = image_text (image_of One target t (edits_left One target t v es))
+
 abbrev pub pack_outcome : Target → Tree → Plain → List PlainEdit → Outcome
-pack_outcome target t v es = unless (pack_fault target t v es) (Ok (image_text (image_of One target t (edits_left One target t v es))))
+pack_outcome target t v es = unless (pack_fault target t v es) (Ok (packed_text target t v es))
 
 -- the first fault of the description
 abbrev pub description_fault : Target → Tree → Option Fault
-description_fault target t = option_and_then (λ error. fault_of (of_describing error)) (desc_fault One target t)
+description_fault target t =
+    option_and_then (λ error. fault_of (of_describing error)) (desc_fault One target t)
 
 -- the lines of its layout, and of its sums with what refuses a niche
+abbrev pub laid_out_text : Target → Tree → List ℕ
+laid_out_text target t = layout_text (written_frame One target t) (written_sums One target 0 t)
+
 abbrev pub layout_outcome : Target → Tree → Outcome
-layout_outcome target t =
-    unless (description_fault target t) (Ok (layout_text (written_frame One target t) (written_sums One target 0 t)))
+layout_outcome target t = unless (description_fault target t) (Ok (laid_out_text target t))
 
 -- what comes of the value that bytes show, if they show one
 abbrev pub value_outcome : (Plain → Outcome) → Option Plain → Outcome
@@ -91,11 +99,14 @@ value_outcome next (Some v) = next v
 -- what comes of the value that the bytes show, where they are as many as the description has
 abbrev pub shown_outcome : (Plain → Outcome) → Target → Tree → List ℕ → Outcome
 shown_outcome next target t bs =
-    if length bs == (written_frame One target t).size then value_outcome next (value_read One target t bs) else Err fault.WrongLength
+    if length bs == (written_frame One target t).size
+    then value_outcome next (value_read One target t bs)
+    else Err fault.WrongLength
 
 -- unless the description has a fault
 abbrev pub bytes_outcome : (Plain → Outcome) → Target → Tree → List ℕ → Outcome
-bytes_outcome next target t bs = unless (description_fault target t) (shown_outcome next target t bs)
+bytes_outcome next target t bs =
+    unless (description_fault target t) (shown_outcome next target t bs)
 
 -- the line of the value
 abbrev pub read_outcome : Target → Tree → List ℕ → Outcome
@@ -103,14 +114,17 @@ read_outcome target t bs = bytes_outcome (λ v. Ok (value_line v)) target t bs
 
 -- the line of the bytes that edits leave, unless one has a fault
 abbrev pub edited_outcome : Target → Tree → List ℕ → List PlainEdit → Plain → Outcome
-edited_outcome target t bs es v = unless (packing_fault (edits_fault One target t v 0 es)) (Ok (bytes_line (edited_bytes One target t es bs)))
+edited_outcome target t bs es v =
+    unless (packing_fault (edits_fault One target t v 0 es))
+    (Ok (bytes_line (edited_bytes One target t es bs)))
 
 abbrev pub edit_outcome : Target → Tree → List ℕ → List PlainEdit → Outcome
 edit_outcome target t bs es = bytes_outcome (edited_outcome target t bs es) target t bs
 
 -- the lines of the description's identifier and its report
 abbrev pub report_lines : Target → Tree → List ℕ
-report_lines target t = report_text (identifier target (report_tree One target t)) (report_tree One target t)
+report_lines target t =
+    report_text (identifier target (report_tree One target t)) (report_tree One target t)
 
 abbrev pub report_outcome : Target → Tree → Outcome
 report_outcome target t = unless (description_fault target t) (Ok (report_lines target t))
@@ -124,6 +138,18 @@ task_outcome target (report t) = report_outcome target t
 
 abbrev pub outcome_of : PlainJob → Outcome
 outcome_of job = task_outcome job.target job.task
+
+-- ---- without a document
+
+-- the image of the job of k fields
+abbrev pub made_image : ℕ → Image
+made_image k = image_of One le64 (made_desc k) (made_value k)
+
+-- its lines; reading gives its value again
+abbrev pub made_outcome : ℕ → Outcome
+made_outcome k = Ok (made_text k true (made_image k))
+
+-- ---- answers
 
 -- the text or the fault that was answered is what comes of the job; want of memory says nothing
 abbrev pub IsOutcome : Outcome → Result (List ℕ) JobError → Type 0

@@ -4,7 +4,7 @@ use Rattle.serde_json.specs.Data.{Data}
 use Rattle.abi_document.specs.Documents.{PlainJob, job_of}
 use Rattle.abi_document.specs.declared.command.Command.{Command}
 use Rattle.abi_tool.specs.Lines.{refused_line}
-use Rattle.abi_tool.specs.Outcomes.{Outcome, outcome_of}
+use Rattle.abi_tool.specs.Outcomes.{Outcome, outcome_of, made_outcome}
 use Rattle.abi_tool.specs.declared.answer.Answer.TheVariants.{Done, NotAJob, Refused}
 use Rattle.abi_tool.specs.declared.answer.Reply.{Reply}
 use Rattle.abi_tool.specs.declared.fault.Fault.{Fault}
@@ -21,12 +21,20 @@ reply_to_document (Some job) = reply_by (outcome_of job)
 unfoldable pub reply_to_tree : Command → Data → Reply
 reply_to_tree command tree = reply_to_document (job_of command tree)
 
+-- the reply without a document to `made` of k fields
+abbrev pub made_reply : ℕ → Reply
+made_reply k = reply_by (made_outcome k)
+
 -- the tree is a job of which a text comes; it is no job; it is a job with a fault
 abbrev pub IsDone : Command → Data → Type 0
-IsDone command tree = (job : PlainJob) × (text : List ℕ) × (job_of command tree ≡ Some job) × (outcome_of job ≡ Ok text)
+IsDone command tree =
+    (job : PlainJob) × (text : List ℕ) × (job_of command tree ≡ Some job)
+    × (outcome_of job ≡ Ok text)
 
 abbrev pub IsNoJob : Command → Data → Type 0
 IsNoJob command tree = job_of command tree ≡ None
 
 abbrev pub IsRefused : Command → Data → Type 0
-IsRefused command tree = (job : PlainJob) × (fault : Fault) × (job_of command tree ≡ Some job) × (outcome_of job ≡ Err fault)
+IsRefused command tree =
+    (job : PlainJob) × (fault : Fault) × (job_of command tree ≡ Some job)
+    × (outcome_of job ≡ Err fault)

@@ -5,7 +5,8 @@ use std::alloc::{AllocError, Global};
 use std::process::Abort;
 use std::test::Fail;
 
-// A target, a description and its first fault; parts are numbered from 0 in post-order: arrays that are too long, and parts that are too large.
+// A target, a description and its first fault; parts are numbered from 0 in post-order: arrays that are too long, and
+// parts that are too large.
 static SIZES: [(&str, &str, &str); 10] = [
     // more than 128 items
     (r#""le64""#, r#"{"array":["u8",129]}"#, "ArrayLength part 1"),
@@ -54,7 +55,8 @@ static SIZES: [(&str, &str, &str); 10] = [
     ),
 ];
 
-// A target, a description and its first fault; parts are numbered from 0 in post-order: sums that the compiler does not lay out in the same way everywhere.
+// A target, a description and its first fault; parts are numbered from 0 in post-order: sums that the compiler does not
+// lay out in the same way everywhere.
 static CORE_SUMS: [(&str, &str, &str); 17] = [
     // the payload has one niche, which is a pattern
     (r#""le64""#, r#"{"core_option":"u8"}"#, "NotStable part 1"),

@@ -3,7 +3,8 @@
 use crate::written_tests::{Row, is_packed};
 use std::test::Fail;
 
-// Arrays: items one after another, their alignment, and their free bits, niches and forbidden values where there is one alone.
+// Arrays: items one after another, their alignment, and their free bits, niches and forbidden values where there is one
+// alone.
 static ARRAYS: [Row; 11] = [
     // one item passes on what it has
     Row {

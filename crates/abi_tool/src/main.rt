@@ -18,6 +18,10 @@ mod key_tests;
 mod layout_tests;
 #[cfg(test)]
 mod library_tests;
+mod made_outcome;
+#[cfg(test)]
+mod made_tests;
+mod made_text;
 mod mem_sink;
 mod mem_source;
 mod outcome;
@@ -36,6 +40,7 @@ mod reply;
 mod report_tests;
 mod report_text;
 mod run_document;
+mod run_made;
 mod sink;
 mod source;
 mod std_sink;

@@ -1,7 +1,8 @@
-ghost use Rattle.std.specs.Prelude.{◌≡◌, ◌↔◌, ◌⊎◌, ◌<◌, ◌-◌, [], Some, IsErr, IfOk, MatchResult, Contains, length, min};
+ghost use Rattle.std.specs.Prelude.{◌≡◌, ◌↔◌, ◌<◌, Some, IsErr, IfOk, length, min};
 ghost use Rattle.std.specs.Io.{WritesAtMost};
 ghost use Rattle.std.specs.Io.KnownBytes.{WriteAppends};
-ghost use Rattle.abi_tool.specs.Causes.{HasCause, raised};
+ghost use Rattle.abi_tool.specs.Causes.{Counts, HasCause, raised};
+ghost use Rattle.abi_tool.specs.Memory.{empty_sink, CannotTake, LeavesRoom};
 
 use crate::failed::Failed;
 use crate::sink::Sink;
@@ -40,7 +41,7 @@ impl<'a> Model for MemSink<'a> {
 impl<'a> MemSink<'a> {
     /// An empty sink with room for `room` bytes; the writes whose numbers, from 0, stand in `fails` fail.
     pub fn new(alloc: Global, room: usize, fails: &'a [u64]) -> Result<MemSink<'a>, OutOfMemory>
-        ensures { IfOk result (λ sink. sink ≡ record { got = []; room = room; fails = fails.now; calls = 0; faults = 0 }) }
+        ensures { IfOk result (λ sink. sink ≡ empty_sink room fails.now) }
     {
         Ok(MemSink {
             bytes: Vec::with_capacity(alloc, room)?,
@@ -70,11 +71,11 @@ impl<'a> Sink for MemSink<'a> {
         ensures bytes { WriteAppends (Some self.old.got) (Some self.new.got) result piece.now }
         ensures cause { HasCause self.old.faults self.new.faults result }
 
-        ensures listed { IsErr result ↔ Contains self.old.fails self.old.calls ⊎ ((self.old.room ≡ 0) × 0 < length piece.now) }
+        ensures listed { IsErr result ↔ CannotTake self.old piece.now }
         ensures count { IfOk result (λ count. count ≡ min (length piece.now) self.old.room) }
-        ensures room { MatchResult result (λ count. self.new.room ≡ self.old.room - count) (λ _. self.new.room ≡ self.old.room) }
+        ensures room { LeavesRoom self.old.room self.new.room result }
         ensures calls { self.new.calls ≡ raised self.old.calls }
-        ensures faults { MatchResult result (λ _. self.new.faults ≡ self.old.faults) (λ _. self.new.faults ≡ raised self.old.faults) }
+        ensures faults { Counts self.old.faults self.new.faults result }
         ensures fails { self.new.fails ≡ self.old.fails }
     {
         let call = self.calls;

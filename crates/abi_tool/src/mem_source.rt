@@ -1,7 +1,7 @@
-ghost use Rattle.std.specs.Prelude.{◌≡◌, ◌↔◌, Some, IsErr, IfOk, MatchResult, Contains, length, min};
+ghost use Rattle.std.specs.Prelude.{◌≡◌, ◌↔◌, Some, IsErr, IfOk, Contains, length, min};
 ghost use Rattle.std.specs.Io.{ReadsAtMost};
 ghost use Rattle.std.specs.Io.KnownBytes.{ReadConsumes};
-ghost use Rattle.abi_tool.specs.Causes.{HasCause, raised};
+ghost use Rattle.abi_tool.specs.Causes.{Counts, HasCause, raised};
 
 use crate::failed::Failed;
 use crate::source::Source;
@@ -21,7 +21,12 @@ impl<'a> Model for MemSource<'a> {
 
     ghost Value = { SourceState };
 
-    ghost view = { λ s. record { left = s.rest.now; fails = s.fails.now; calls = s.calls; faults = s.faults } };
+    ghost view = { λ s. record {
+      left = s.rest.now;
+      fails = s.fails.now;
+      calls = s.calls;
+      faults = s.faults;
+    } };
 }
 
 impl<'a> MemSource<'a> {
@@ -51,7 +56,7 @@ impl<'a> Source for MemSource<'a> {
         ensures listed { IsErr result ↔ Contains self.old.fails self.old.calls }
         ensures count { IfOk result (λ count. count ≡ min (length buf.new) (length self.old.left)) }
         ensures calls { self.new.calls ≡ raised self.old.calls }
-        ensures faults { MatchResult result (λ _. self.new.faults ≡ self.old.faults) (λ _. self.new.faults ≡ raised self.old.faults) }
+        ensures faults { Counts self.old.faults self.new.faults result }
         ensures fails { self.new.fails ≡ self.old.fails }
     {
         let call = self.calls;

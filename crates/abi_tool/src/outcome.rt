@@ -49,7 +49,8 @@ fn pack_outcome(
     edits: &[Edit],
 ) -> Result<Text, JobError>
     requires { AreFew edits.now }
-    ensures { IsOutcome (pack_outcome target.now (tree desc.now) (plain value.now) (plain_edits edits.now)) result }
+    ensures { IsOutcome
+        (pack_outcome target.now (tree desc.now) (plain value.now) (plain_edits edits.now)) result }
 {
     let image = run(alloc, target, desc, value, edits)?;
     Ok(text_of(alloc, &image)?)
@@ -81,9 +82,13 @@ fn edit_outcome(
     edits: &[Edit],
 ) -> Result<Text, JobError>
     requires { AreFew edits.now }
-    ensures { IsOutcome (edit_outcome target.now (tree desc.now) bytes.now (plain_edits edits.now)) result }
+    ensures { IsOutcome
+        (edit_outcome target.now (tree desc.now) bytes.now (plain_edits edits.now)) result }
 {
     let plan = Plan::of(alloc, target, desc)?;
+    if plan.shows_many(bytes) {
+        return Err(JobError::OutOfMemory);
+    }
     check_shown(&plan, bytes)?;
     let Ok(mut edited) = Vec::from_slice(alloc, bytes) else {
         return Err(JobError::OutOfMemory);
@@ -94,8 +99,10 @@ fn edit_outcome(
 
 // Refused where there are not as many bytes as the description has, or they show no value.
 fn check_shown(plan: &Plan, bytes: &[u8]) -> Result<(), ReadError>
-    ensures ok { OnOk result (OfPlan plan.now (λ rules target t. IsShown rules target t bytes.now)) }
-    ensures err { IfErr result (λ error. OfPlan plan.now (λ rules target t. IsReadError rules target t bytes.now error)) }
+    ensures ok { OnOk result (OfPlan plan.now (λ rules target t.
+        IsShown rules target t bytes.now)) }
+    ensures err { IfErr result (λ error. OfPlan plan.now (λ rules target t.
+        IsReadError rules target t bytes.now error)) }
 {
     if bytes.len() as u64 != plan.layout().size() {
         return Err(ReadError::WrongLength);

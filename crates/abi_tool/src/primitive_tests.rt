@@ -17,8 +17,8 @@ struct Primitive {
 
 static TARGETS: [&str; 4] = [r#""le64""#, r#""le16""#, r#""le32o""#, r#""be32""#];
 
-// Pointers have 8, 2, 4 and 4 bytes there, integers of 64 bits are aligned to 8, 4, 4 and 8, those of 128 bits to 16, 8,
-// 16 and 8.
+// Pointers have 8, 2, 4 and 4 bytes there, integers of 64 bits are aligned to 8, 4, 4 and 8, those of 128 bits to 16,
+// 8, 16 and 8.
 static PRIMITIVES: [Primitive; 18] = [
     Primitive {
         descs: &[
@@ -240,7 +240,8 @@ fn layouts_of_primitives(rt: HostRuntime) -> Result<(), Fail> {
     Ok(())
 }
 
-// A target, a description, a value as it is written, and its bytes, worked out by hand: plain integers, truth values, orders.
+// A target, a description, a value as it is written, and its bytes, worked out by hand: plain integers, truth values,
+// orders.
 static PLAIN: [(&str, &str, &str, &str); 29] = [
     // without bytes
     (r#""le64""#, r#""PhantomData""#, r#"null"#, ""),
@@ -291,7 +292,8 @@ static PLAIN: [(&str, &str, &str, &str); 29] = [
     (r#""le16""#, r#""AtomicIsize""#, r#"-2"#, "feff"),
 ];
 
-// A target, a description, a value as it is written, and its bytes, worked out by hand: integers that are never 0 or never the greatest.
+// A target, a description, a value as it is written, and its bytes, worked out by hand: integers that are never
+// 0 or never the greatest.
 static RESTRICTED: [(&str, &str, &str, &str); 17] = [
     // all but 0
     (r#""le64""#, r#""NonZeroI8""#, r#"-1"#, "ff"),
@@ -334,7 +336,8 @@ static RESTRICTED: [(&str, &str, &str, &str); 17] = [
     (r#""le16""#, r#""NonMaxUsize""#, r#"65534"#, "0100"),
 ];
 
-// A target, a description, a value as it is written, and its bytes, worked out by hand: integers that are never one number, descriptors, functions, pointers.
+// A target, a description, a value as it is written, and its bytes, worked out by hand: integers that are never
+// one number, descriptors, functions, pointers.
 static OTHERS: [(&str, &str, &str, &str); 29] = [
     // all but one number: what stands is the distance above it, modulo 256 for one byte
     (r#""le64""#, r#"{"non_x":["u8",72]}"#, r#"73"#, "01"),

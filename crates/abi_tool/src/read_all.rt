@@ -25,9 +25,12 @@ pub enum ReadError {
 /// All bytes of the source. Reading stops at the byte after the last that a document may have.
 #[tactic(auto, using(crate::proofs::Known::consumes_then), unfolding(crate::specs::Moves::limit))]
 pub fn read_all<S: Source>(alloc: Global, source: &mut S) -> Result<Vec<u8>, ReadError>
-    ensures whole { IfOk result (λ bytes. CameWhole (S.left source.old) (S.left source.new) bytes.items) }
-    ensures too_long { result ≡ Err ReadError.TooLong → CameTooLong (S.left source.old) (S.left source.new) }
-    ensures fault { result ≡ Err ReadError.Fault → Rose (S.faults source.old) (S.faults source.new) }
+    ensures whole { IfOk result (λ bytes.
+        CameWhole (S.left source.old) (S.left source.new) bytes.items) }
+    ensures too_long { result ≡ Err ReadError.TooLong →
+        CameTooLong (S.left source.old) (S.left source.new) }
+    ensures fault { result ≡ Err ReadError.Fault →
+        Rose (S.faults source.old) (S.faults source.new) }
     ensures later { S.faults source.old ≤ S.faults source.new }
 {
     let mut bytes = Vec::new(alloc);

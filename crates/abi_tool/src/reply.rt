@@ -1,11 +1,13 @@
-ghost use Rattle.std.specs.Prelude.{◌≡◌, IfOk};
+ghost use Rattle.std.specs.Prelude.{◌≡◌, IsTrue, IfOk};
 ghost use Rattle.serde_json.specs.View.{view};
 ghost use Rattle.abi_document.specs.Documents.{HasFewEdits, plain_job};
-ghost use Rattle.abi_tool.specs.Outcomes.{outcome_of};
-ghost use Rattle.abi_tool.specs.Reply.{reply_by, reply_to_tree};
+ghost use Rattle.abi_document.specs.Made.{is_count};
+ghost use Rattle.abi_tool.specs.Outcomes.{Outcome, IsOutcome, outcome_of};
+ghost use Rattle.abi_tool.specs.Reply.{reply_by, made_reply, reply_to_tree};
 
 use crate::answer::{Answer, Reply};
 use crate::job_error::JobError;
+use crate::made_outcome::made_outcome;
 use crate::outcome::outcome_of;
 use crate::text::refused;
 use abi_document::{Command, Job, job_of};
@@ -32,7 +34,22 @@ fn reply_to_job(alloc: Global, job: &Job) -> Result<Reply, OutOfMemory>
     requires { HasFewEdits job.now.work }
     ensures { IfOk result (λ reply. reply ≡ reply_by (outcome_of (plain_job job.now))) }
 {
-    match outcome_of(alloc, job) {
+    reply_by(alloc, outcome_of(alloc, job))
+}
+
+/// The reply to `made` of so many fields.
+pub fn made_reply(alloc: Global, count: u32) -> Result<Reply, OutOfMemory>
+    requires { IsTrue (is_count count) }
+    ensures { IfOk result (λ reply. reply ≡ made_reply count) }
+{
+    reply_by(alloc, made_outcome(alloc, count))
+}
+
+// The reply by what came of a job.
+fn reply_by(alloc: Global, outcome: Result<Text, JobError>) -> Result<Reply, OutOfMemory>
+    ensures { IfOk result (λ reply. (o : Outcome) → IsOutcome o outcome → reply ≡ reply_by o) }
+{
+    match outcome {
         Ok(text) => Ok(Reply {
             answer: Answer::Done,
             text,

@@ -3,13 +3,14 @@
 use crate::tests::{LE64, described, is_refused_by, replies};
 use std::test::Fail;
 
-// A target, a description, its identifier and its report. The identifiers are from Python's hashlib, the hashed bytes and the
-// target's written out:
+// A target, a description, its identifier and its report. The identifiers are from Python's hashlib, the hashed bytes
+// and the target's written out:
 //     d = sha256(b"stabby_abi::stable_impls" b"u8\0").digest()
 //     arch = b"\x00\x08\x08\x08\x08\x10\x00\x00"
 //     int.from_bytes(d[:8], "little") ^ int.from_bytes(arch, "little")
-// The target's bytes of `be32` are b"\x00\x04\x04\x04\x04\x08\x01\x00". The hashed bytes of the last two are b"demo" b"N146\0", and
-// b"demo" b"Pair\0" b"left" b"stabby_abi::stable_impls" b"u32\0" b"right" b"stabby_abi::stable_impls" b"bool\0".
+// The target's bytes of `be32` are b"\x00\x04\x04\x04\x04\x08\x01\x00". The hashed bytes of the last two are
+// b"demo" b"N146\0", and b"demo" b"Pair\0" b"left" b"stabby_abi::stable_impls" b"u32\0" b"right"
+// b"stabby_abi::stable_impls" b"bool\0".
 static REPORTS: [(&str, &str, &str, &str); 4] = [
     (
         LE64,

@@ -1,7 +1,7 @@
 ghost use Rattle.std.specs.Prelude.{◌≡◌, ◌≢◌, ◌≤◌, [], length, Some, Err, IfOk, IfSome};
 ghost use Rattle.std.specs.Io.KnownBytes.{Keeps};
 ghost use Rattle.abi_tool.specs.declared.answer.Answer.{Answer};
-ghost use Rattle.abi_tool.specs.Answers.{code_of, reply_to_bytes, Replies, Means, rest_of_document, IsSilent};
+ghost use Rattle.abi_tool.specs.Answers.{code_of, reply_to_bytes, Replies, Means, LeavesRest, rest_of_document, IsSilent};
 ghost use Rattle.abi_tool.specs.Causes.{Rose};
 ghost use Rattle.abi_tool.specs.Moves.{limit};
 
@@ -51,7 +51,7 @@ pub fn run_document<S: Source, K: Sink>(
     ensures means { IfSome (S.left source.old) (λ bytes.
         (answer : Answer) → result ≡ code_of answer → Means command answer bytes) }
     ensures rest { IfSome (S.left source.old) (λ bytes.
-        result ≢ 2 → result ≢ 8 → S.left source.new ≡ Some (rest_of_document result bytes)) }
+        LeavesRest (rest_of_document result bytes) result (S.left source.new)) }
 {
     match read_reply(alloc, command, source) {
         Ok(reply) => match write_all(sink, reply.text.as_str().as_bytes()) {

@@ -13,8 +13,8 @@ pub const LE64: &str = r#""le64""#;
 // A document whose job can be done.
 const NONE_OF_BOOL: &str = r#"{"target":"le64","desc":{"option":"bool"},"value":"none"}"#;
 
-// The status of the program with these words.
-fn run(
+/// The status of the program with these words.
+pub fn run(
     alloc: Global,
     words: &[&str],
     source: &mut MemSource<'_>,

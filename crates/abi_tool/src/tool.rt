@@ -1,11 +1,12 @@
 ghost use Rattle.std.specs.Prelude.{◌≡◌, ◌≢◌, ◌↔◌, ◌⊎◌, [], ◌∷◌, Some, None, IfSome, codes};
-ghost use Rattle.abi_tool.specs.Headline.{Packs, LaysOut, Reads, Edits, Reports};
+ghost use Rattle.abi_tool.specs.Headline.{Packs, LaysOut, Reads, Edits, Reports, Makes};
 ghost use Rattle.std.specs.Io.KnownBytes.{Keeps};
-ghost use Rattle.abi_tool.specs.Answers.{invocation_of, reply_to, status_of, Answers, StatusMeans, rest_after, IsSilent};
+ghost use Rattle.abi_tool.specs.Answers.{invocation_of, reply_to, status_of, Answers, StatusMeans, ReadsNone, IfMade, LeavesRest, rest_after, IsSilent};
 ghost use Rattle.abi_tool.specs.Causes.{Rose};
 
 use crate::command::{Invocation, invocation_of};
 use crate::run_document::run_document;
+use crate::run_made::run_made;
 use crate::sink::Sink;
 use crate::source::Source;
 use abi_num::Text;
@@ -26,7 +27,7 @@ pub fn tool<S: Source, K: Sink>(alloc: Global, words: &[Text], source: &mut S, s
     ensures means { IfSome (S.left source.old) (λ bytes.
         StatusMeans (invocation_of words.now) result bytes) }
     ensures rest { IfSome (S.left source.old) (λ bytes.
-        result ≢ 2 → result ≢ 8 → S.left source.new ≡ Some (rest_after (invocation_of words.now) result bytes)) }
+        LeavesRest (rest_after (invocation_of words.now) result bytes) result (S.left source.new)) }
 
     // Status 0 of `pack`: the document was a job without a fault, and an image was written that shows the value which
     // its edits leave, and no other.
@@ -51,11 +52,23 @@ pub fn tool<S: Source, K: Sink>(alloc: Global, words: &[Text], source: &mut S, s
 
     // With no fault the status is that of the reply, unless memory was refused.
     ensures complete { IfSome (S.left source.old) (λ bytes.
-        ¬ Rose (S.faults source.old) (S.faults source.new) → ¬ Rose (K.faults sink.old) (K.faults sink.new)
+        ¬ Rose (S.faults source.old) (S.faults source.new)
+        → ¬ Rose (K.faults sink.old) (K.faults sink.new)
         → (result ≡ status_of (reply_to words.now bytes)) ⊎ (result ≡ 8)) }
+
+    // Where no document is read, the source stays as it was, whether or not it tells its bytes.
+    ensures unread { ReadsNone (invocation_of words.now) → source.new ≡ source.old }
+
+    // Of `made`: 0, and the lines of the made job's image were written, whose value is read back; or 3, and a beginning
+    // of them was; or 8.
+    ensures makes { IfMade (invocation_of words.now) (λ k.
+        Makes k (K.got sink.old) (K.got sink.new) result) }
+    ensures made_complete { IfMade (invocation_of words.now) (λ k.
+        ¬ Rose (K.faults sink.old) (K.faults sink.new) → (result ≡ 0) ⊎ (result ≡ 8)) }
 {
     match invocation_of(words) {
         None => 1,
         Some(Invocation::Document(command)) => run_document(alloc, command, source, sink),
+        Some(Invocation::Made(count)) => run_made(alloc, count, sink),
     }
 }

@@ -70,7 +70,8 @@ fn push_values(alloc: Global, out: &mut String, values: &[Value]) -> Result<(), 
 // An object with this key alone.
 #[cycle(writing)]
 fn push_member(alloc: Global, out: &mut String, key: &str, value: &Value) -> Result<(), AllocError>
-    ensures { OnOk result (Adds out.old out.new (member_text key.now (value_text (plain value.now)))) }
+    ensures { OnOk result
+        (Adds out.old out.new (member_text key.now (value_text (plain value.now)))) }
 {
     write!(out, "{{\"{key}\":")?;
     push_value(alloc, out, value)?;

@@ -321,7 +321,8 @@ fn each_word_of_each_line(rt: HostRuntime) -> Result<(), Fail> {
     Ok(())
 }
 
-/// An integer type: its size in bytes, its least and its greatest number with their bytes, and the numbers beside these.
+/// An integer type: its size in bytes, its least and its greatest number with their bytes, and the numbers beside
+/// these.
 struct Integer {
     name: &'static str,
     size: u64,

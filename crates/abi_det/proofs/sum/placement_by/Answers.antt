@@ -1,30 +1,46 @@
-use Rattle.std.proofs.Common.{◌∙◌}
+use Rattle.std.proofs.Common.{sym, ◌∙◌}
+use Rattle.abi_det.proofs.Placing.{niche_placed, tag_placed}
 use Rattle.abi_det.proofs.SoundPlacements.{placement_sound}
-use Rattle.abi_det.proofs.Places.{written_niched, written_tagged}
 use Rattle.abi_det.proofs.sum.placement_by.Goals as goal
 
-pub returns-in-Some-clause-written : goal.returns-in-Some-clause-written
-returns-in-Some-clause-written c =
-    let found = rw (c.with_bytes-roles.ensures.large, c.with_bytes-roles.ensures.small, c.with_bytes-roles.ensures.size, c.new-roles.ensures.large, c.new-roles.ensures.small, c.new-roles.ensures.size, c.in-Some.is) at c.in_ok-place.ensures.same in
-    c.in_ok-placement-in-Some.ensures.same ∙ written_niched c.args.rules c.args.ok.now c.args.err.now c.in-Some.place c.in-Some.found found
+pub niched-requires : goal.niched-requires
+niched-requires c =
+    let found = c.in_ok-found.ensures in
+    (niche_placed c.args.rules c.args.ok.now c.args.err.now c.in_ok-found.found found.well_formed.0.mask found.well_formed.1.mask found.same
+    (sym c.is_niche_trick.ensures ∙ c.if-is_niche_trick.true)).0
 
-pub returns-in-Some-clause-placed : goal.returns-in-Some-clause-placed
-returns-in-Some-clause-placed c = (c.args.rules, returns-in-Some-clause-written c)
+pub tagged-requires : goal.tagged-requires
+tagged-requires c =
+    let found = c.in_ok-found.ensures in
+    (tag_placed c.args.rules c.args.ok.now c.args.err.now c.in_ok-found.found found.well_formed.0.mask found.well_formed.1.mask found.same
+    (sym c.is_niche_trick.ensures ∙ c.if-is_niche_trick.false)).0
 
-pub returns-in-Some-clause-sound : goal.returns-in-Some-clause-sound
-returns-in-Some-clause-sound c =
-    let sound = rw (c.new-roles.ensures.large, c.new-roles.ensures.small) at c.in_ok-patterns.ensures.well_formed in
-    placement_sound c.args.rules c.args.ok.now c.args.err.now _ sound.0 sound.1 (returns-in-Some-clause-written c)
+pub returns-in_ok-placement-clause-written : goal.returns-in_ok-placement-clause-written
+returns-in_ok-placement-clause-written c =
+    let found = c.in_ok-found.ensures in
+    c.in_ok-placement.ensures.same
+    ∙ (niche_placed c.args.rules c.args.ok.now c.args.err.now c.in_ok-found.found found.well_formed.0.mask found.well_formed.1.mask found.same
+    (sym c.is_niche_trick.ensures ∙ c.if-is_niche_trick.true)).1
 
-pub returns-clause-written : goal.returns-clause-written
-returns-clause-written c =
-    let none = rw (c.with_bytes-roles.ensures.large, c.with_bytes-roles.ensures.small, c.with_bytes-roles.ensures.size, c.new-roles.ensures.large, c.new-roles.ensures.small, c.new-roles.ensures.size, c.in-None.is) at c.in_ok-place.ensures.same in
-    c.in_ok-placement-in-None.ensures.same ∙ written_tagged c.args.rules c.args.ok.now c.args.err.now none
+pub returns-in_ok-placement-clause-placed : goal.returns-in_ok-placement-clause-placed
+returns-in_ok-placement-clause-placed c = (c.args.rules, returns-in_ok-placement-clause-written c)
 
-pub returns-clause-placed : goal.returns-clause-placed
-returns-clause-placed c = (c.args.rules, returns-clause-written c)
+pub returns-in_ok-placement-clause-sound : goal.returns-in_ok-placement-clause-sound
+returns-in_ok-placement-clause-sound c =
+    let sound = c.in_ok-found.ensures.well_formed in
+    placement_sound c.args.rules c.args.ok.now c.args.err.now _ sound.0 sound.1 (returns-in_ok-placement-clause-written c)
 
-pub returns-clause-sound : goal.returns-clause-sound
-returns-clause-sound c =
-    let sound = rw (c.new-roles.ensures.large, c.new-roles.ensures.small) at c.in_ok-patterns.ensures.well_formed in
-    placement_sound c.args.rules c.args.ok.now c.args.err.now _ sound.0 sound.1 (returns-clause-written c)
+pub returns-in_ok-placement-2-clause-written : goal.returns-in_ok-placement-2-clause-written
+returns-in_ok-placement-2-clause-written c =
+    let found = c.in_ok-found.ensures in
+    c.in_ok-placement-2.ensures.same
+    ∙ (tag_placed c.args.rules c.args.ok.now c.args.err.now c.in_ok-found.found found.well_formed.0.mask found.well_formed.1.mask found.same
+    (sym c.is_niche_trick.ensures ∙ c.if-is_niche_trick.false)).1
+
+pub returns-in_ok-placement-2-clause-placed : goal.returns-in_ok-placement-2-clause-placed
+returns-in_ok-placement-2-clause-placed c = (c.args.rules, returns-in_ok-placement-2-clause-written c)
+
+pub returns-in_ok-placement-2-clause-sound : goal.returns-in_ok-placement-2-clause-sound
+returns-in_ok-placement-2-clause-sound c =
+    let sound = c.in_ok-found.ensures.well_formed in
+    placement_sound c.args.rules c.args.ok.now c.args.err.now _ sound.0 sound.1 (returns-in_ok-placement-2-clause-written c)

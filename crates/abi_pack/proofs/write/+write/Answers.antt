@@ -21,12 +21,12 @@ write-write_all-requires t c =
     let sound = rw is at c.requires.sound in
     let room = rw is at c.requires.room in
     let small = rw is at c.requires.small in
-    (omega (arith, c.decreases), (sound.0, (omega (arith, room, small), (rw (is, c.in-Some.ensures) at c.requires.fits, omega (arith, room, sound.1)))))
+    (omega (arith, c.decreases), (sound.0, (omega (arith, room, small), (rw (is, c.in-Some.ensures.some) at c.requires.fits, omega (arith, room, sound.1)))))
 
 pub write-returns-in-Some : goal.write-returns-in-Some
 write-returns-in-Some t c =
     struct_packed c.args.part.now c.as_slice.result.now c.in-Struct.fields c.in-Struct.size (plain c.args.value.now) (plains c.in-Some.values.now) c.args.out.now c.write_all.new.out
-    c.in-Struct.is c.as_slice.ensures c.in-Some.ensures c.requires.room c.write_all.ensures
+    c.in-Struct.is c.as_slice.ensures c.in-Some.ensures.some c.requires.room c.write_all.ensures
 
 pub write-write_at-requires : goal.write-write_at-requires
 write-write_at-requires t c =
@@ -38,7 +38,7 @@ write-write_at-requires t c =
     (omega (arith, c.requires.room)) in
     let fit : fits (shape c.side-part.result.now) (plain variant.payload.now) ≡ true =
     payload_fits c.args.part.now c.side-part.result.now c.in-Sum.names variant.names c.in-Sum.ok c.in-Sum.err c.in-Sum.sum_layout (plain c.args.value.now) (plain variant.payload.now) variant.first
-    c.in-Sum.is side c.in-Some-as_variant.ensures c.requires.fits in
+    c.in-Sum.is side c.in-Some-as_variant.ensures.some c.requires.fits in
     (omega (arith, c.decreases, of.fewer), (of.sound, (omega (arith, c.requires.small, c.requires.room), (fit, omega (arith, of.within, c.start.ensures)))))
 
 pub write-name_variant-requires : goal.write-name_variant-requires

@@ -5,6 +5,6 @@ use Rattle.abi_det.proofs.placed_variant.PlacedVariant.lies_free.Given as goal
 
 abbrev pub invariant-loop-offset : goal.invariant-loop-offset
 invariant-loop-offset l =
-    (lies_free (union_byte l.self.layout.now l.self.shift l.self.size) (moved_pairs l.by (drop l.offset-index l.pairs))
-    ≡ lies_free (union_byte l.self.layout.now l.self.shift l.self.size) (moved_pairs l.by l.pairs))
+    (lies_free (union_byte l.self.variant.now l.self.shift l.self.size) (moved_pairs l.by (drop l.offset-index l.pairs))
+    ≡ lies_free (union_byte l.self.variant.now l.self.shift l.self.size) (moved_pairs l.by l.pairs))
     × IsTrue (are_below 1048576 (drop l.offset-index l.pairs))

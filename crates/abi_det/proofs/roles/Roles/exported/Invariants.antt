@@ -8,9 +8,9 @@ use Rattle.abi_det.proofs.roles.Roles.exported.Given as goal
 abbrev pub invariant-loop-at : goal.invariant-loop-at
 invariant-loop-at l =
     record {
-      told : l.mask ≡ entries_below (without l.test (spare_byte l.self.large.now l.self.small.now l.shift l.self.size)) l.from;
+      told : l.mask ≡ entries_below (without l.test (spare_byte l.self.large l.self.small l.shift l.self.size)) l.from;
       within : l.from ≤ l.self.size;
-      left : AreLeft l.self.large.now l.self.small.now l.shift l.own l.from;
+      left : AreLeft l.self.large l.self.small l.shift l.own l.from;
     }
 
 abbrev pub decreases-loop-at : goal.decreases-loop-at

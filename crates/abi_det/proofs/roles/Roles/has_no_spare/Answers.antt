@@ -10,4 +10,4 @@ other_way a false h = rw h refl
 pub returns : goal.returns
 returns c =
     other_way (is_some c.next_spare.result) c.is_none.result c.is_none.ensures
-    ∙ shared_if (spare_byte c.args.self.now.large.now c.args.self.now.small.now c.args.shift c.args.self.now.size) c.args.self.now.size c.next_spare.result c.next_spare.ensures.next
+    ∙ shared_if (spare_byte c.args.self.now.large c.args.self.now.small c.args.shift c.args.self.now.size) c.args.self.now.size c.next_spare.result c.next_spare.ensures.next

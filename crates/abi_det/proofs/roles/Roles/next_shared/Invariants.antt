@@ -6,8 +6,8 @@ use Rattle.abi_det.proofs.roles.Roles.next_shared.Given as goal
 abbrev pub invariant-loop-next : goal.invariant-loop-next
 invariant-loop-next l = record {
   reached : l.from ≤ l.at;
-  none : NoneTo l.self.large.now l.self.small.now l.shift l.self.size l.from l.at;
-  left : AreLeft l.self.large.now l.self.small.now l.shift l.own l.at;
+  none : NoneTo l.self.large l.self.small l.shift l.self.size l.from l.at;
+  left : AreLeft l.self.large l.self.small l.shift l.own l.at;
 }
 
 abbrev pub decreases-loop-next : goal.decreases-loop-next

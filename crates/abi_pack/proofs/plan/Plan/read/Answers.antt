@@ -1,7 +1,7 @@
 use Rattle.std.proofs.Common.{◌∙◌, sym, slice_index, arith}
 use Rattle.abi_pack.specs.ByteMap.{AreBytes}
 use Rattle.abi_pack.specs.View.{plain}
-use Rattle.abi_pack.proofs.Planning.{plan_other_length, plan_read, plan_shown, plan_none}
+use Rattle.abi_pack.proofs.Planning.{plan_other_length, plan_read, plan_long, plan_none}
 use Rattle.abi_pack.proofs.plan.Plan.read.Goals as goal
 
 pub returns-then-bytes-size : goal.returns-then-bytes-size
@@ -18,11 +18,7 @@ returns-in-Ok c =
     plan_read _ c.args.self.now (plain c.in-Ok.value) c.args.bytes.now c.self.view_is bytes (c.if-bytes-size.false ∙ c.size.ensures) c.if-not-is_shown.ensures c.in-Ok.ensures
 
 pub returns-in-Err : goal.returns-in-Err
-returns-in-Err c =
-    let bytes : AreBytes (slice_index c.args.bytes.now) = λ i. omega (arith, c.type_inv.bytes i) in
-    plan_shown _ c.args.self.now c.args.bytes.now c.self.view_is bytes (c.if-bytes-size.false ∙ c.size.ensures) c.if-not-is_shown.ensures
+returns-in-Err c = plan_long _ c.args.self.now c.args.bytes.now c.self.view_is (c.if-bytes-size.false ∙ c.size.ensures)
 
-pub returns-then-values-gt-MAX_VALUES : goal.returns-then-values-gt-MAX_VALUES
-returns-then-values-gt-MAX_VALUES c =
-    let bytes : AreBytes (slice_index c.args.bytes.now) = λ i. omega (arith, c.type_inv.bytes i) in
-    plan_shown _ c.args.self.now c.args.bytes.now c.self.view_is bytes (c.if-bytes-size.false ∙ c.size.ensures) c.if-not-is_shown.ensures
+pub returns-then-shows_many : goal.returns-then-shows_many
+returns-then-shows_many c = plan_long _ c.args.self.now c.args.bytes.now c.self.view_is (c.if-bytes-size.false ∙ c.size.ensures)

@@ -1,0 +1,6 @@
+use Rattle.std.proofs.Common.{refl}
+use Rattle.abi_result.proofs.option.Option.match_mut.Goals as goal
+
+pub returns-in-Some : goal.returns-in-Some
+returns-in-Some g c = rw c.in-Some.is
+    (record { shown = _; shows = c.in-Some.contents-is; left = _; met = c.some.ensures; leaves = refl })
