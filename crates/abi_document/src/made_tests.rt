@@ -19,7 +19,7 @@ fn push_types(alloc: Global, out: &mut Vec<String>, i: u32) -> Result<(), AllocE
         ),
         (5, r#"{"array":["u8",3]}"#),
     ] {
-        out.push(format!(in alloc; "[\"f{}\",{ty}]", i + more)?)?;
+        out.push(format!(in alloc; "[\"f{}\",{ty}]", i.wrapping_add(more))?)?;
     }
     Ok(())
 }
