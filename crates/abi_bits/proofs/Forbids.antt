@@ -10,14 +10,17 @@ use Rattle.std.proofs.lemmas.List.Folds.{list_all-append, list_all-map, find-app
 use Rattle.abi_bits.specs.Pairs.{Pair, are_below}
 use Rattle.abi_bits.specs.Mask.{mask_at}
 use Rattle.abi_bits.proofs.Sets.{moved_below}
-use Rattle.abi_bits.specs.Forbidden.{Item, pattern, range, is_solid_byte, is_solid_item, moved_item, items, single, offer, offered, is_item_below, is_ranged, are_items_below, AreSound, ends_in_pattern}
+use Rattle.abi_bits.specs.Forbidden.{Item, pattern, range, or, tree, items_of, is_solid_byte, is_solid_item, moved_item, items, single, offer, offered, is_item_below, is_ranged, are_items_below, AreSound, ends_in_pattern}
 use Rattle.abi_bits.specs.Single.{answer}
 use Rattle.abi_bits.specs.declared.single_forbidden_value.SingleForbiddenValue.{SingleForbiddenValue}
 use Rattle.abi_bits.specs.declared.single_forbidden_value.SingleForbiddenValue.TheVariants.{Saturator, End, Array}
 use Rattle.abi_bits.specs.declared.forbidden_values.ForbiddenValues.{ForbiddenValues, Or, the_lemmas}
 
+tree_or : (left right : Box ForbiddenValues Global) → tree (Or left right) ≡ or (tree left.value) (tree right.value)
+tree_or left right = search (rules, the_lemmas)
+
 pub items_or : (left right : Box ForbiddenValues Global) → items (Or left right) ≡ items left.value ++ items right.value
-items_or left right = search (rules, the_lemmas)
+items_or left right = ap items_of (tree_or left right)
 
 all_left : (p : Item → Bool) (xs ys : List Item) → list_all p (xs ++ ys) ≡ true → list_all p xs ≡ true
 all_left p xs ys h = (and_parts (list_all p xs) (list_all p ys) (rw list_all-append at h)).0
@@ -54,8 +57,8 @@ pub or_all : (p : List Pair → Bool) (self : ForbiddenValues) (left right : Box
 or_all p self left right is a b =
     rw (is, items_or, map-append, list_all-append) (and_from (list_all p (offered (items left.value))) (list_all p (offered (items right.value))) a b)
 
-ends_or : (left right : Box ForbiddenValues Global) → ends_in_pattern (Or left right) ≡ ends_in_pattern right.value
-ends_or left right = search (rules, the_lemmas)
+ends_or : (left right : Box ForbiddenValues Global) → ends_in_pattern (tree (Or left right)) ≡ ends_in_pattern (tree right.value)
+ends_or left right = ap ends_in_pattern (tree_or left right)
 
 find_or : (test : List Pair → Bool) (self : ForbiddenValues) (left right : Box ForbiddenValues Global) → self ≡ Or left right
     → find test (offered (items self)) ≡ option_or (find test (offered (items left.value))) (find test (offered (items right.value)))
@@ -73,8 +76,8 @@ pub right_found : (test : List Pair → Bool) (self : ForbiddenValues) (left rig
 right_found test self left right is none = rw (find_or test self left right is, ← none) refl
 
 pub right_answer : (test : List Pair → Bool) (self : ForbiddenValues) (left right : Box ForbiddenValues Global) (found : SingleForbiddenValue) → self ≡ Or left right
-    → None ≡ find test (offered (items left.value)) → found ≡ answer (find test (offered (items right.value))) (ends_in_pattern right.value)
-    → found ≡ answer (find test (offered (items self))) (ends_in_pattern self)
+    → None ≡ find test (offered (items left.value)) → found ≡ answer (find test (offered (items right.value))) (ends_in_pattern (tree right.value))
+    → found ≡ answer (find test (offered (items self))) (ends_in_pattern (tree self))
 right_answer test self left right found is none same =
     rw (← right_found test self left right is none) (same ∙ rw (is, ends_or) refl)
 

@@ -7,4 +7,5 @@ pub mod Least
 pub mod Masks
 pub mod Sets
 pub mod Spans
+pub mod Trees
 pub mod Walking

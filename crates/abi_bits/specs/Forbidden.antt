@@ -1,5 +1,5 @@
--- Forbidden values as a list of items from left to right, and what the leftmost leaf offers.
-use Rattle.std.specs.Prelude.{◌≡◌, ℕ, ◌+◌, List, [], ◌∷◌, ◌++◌, Bool, true, false, ◌&&◌, nat_le, nat_lt, ◌==◌, Option, Some, None, IsTrue, map, if◌then◌else◌}
+-- Forbidden values as a plain tree, its items from left to right, and what its leftmost leaf offers.
+use Rattle.std.specs.Prelude.{ℕ, ◌+◌, List, [], ◌∷◌, ◌++◌, Bool, true, false, ◌&&◌, nat_le, nat_lt, ◌==◌, Option, Some, None, IsTrue, map}
 use Rattle.std.specs.List.{list_all, find}
 use Rattle.abi_bits.specs.Pairs.{Pair, is_matched, moved_pairs, are_below, max_size}
 use Rattle.abi_bits.specs.Mask.{mask_at, lies_free}
@@ -56,25 +56,69 @@ is_solid_item size free (pattern ps) = list_all (λ p. is_solid_byte size free p
 is_solid_item size free (range at least greatest) =
     is_solid_byte size free at && nat_lt least greatest
 
-abbrev pub items_step : ForbiddenValues-F (List Item) → List Item
-items_step ForbiddenValues-F.End = []
-items_step (ForbiddenValues-F.Array p) = pattern p ∷ []
-items_step (ForbiddenValues-F.ForbiddenRange least greatest at) = range at least greatest ∷ []
-items_step (ForbiddenValues-F.Or left right) = left.value ++ right.value
+-- what the forbidden values are: nothing, one item, or what either of two forbids
+pub data Forbidden : Type 0 where
+  nothing : Forbidden
+  alone : Item → Forbidden
+  or : Forbidden → Forbidden → Forbidden
+
+abbrev pub tree_step : ForbiddenValues-F Forbidden → Forbidden
+tree_step ForbiddenValues-F.End = nothing
+tree_step (ForbiddenValues-F.Array p) = alone (pattern p)
+tree_step (ForbiddenValues-F.ForbiddenRange least greatest at) = alone (range at least greatest)
+tree_step (ForbiddenValues-F.Or left right) = or left.value right.value
+
+-- the values as a plain tree
+abbrev pub tree : ForbiddenValues → Forbidden
+tree = fold-ForbiddenValues Forbidden tree_step
 
 -- the leaves from left to right, without those that forbid nothing
-abbrev pub items : ForbiddenValues → List Item
-items = fold-ForbiddenValues (List Item) items_step
-
-abbrev pub head_step : ForbiddenValues-F (Option (List Pair)) → Option (List Pair)
-head_step ForbiddenValues-F.End = None
-head_step (ForbiddenValues-F.Array p) = Some p
-head_step (ForbiddenValues-F.ForbiddenRange least greatest at) = Some ((at, least) ∷ [])
-head_step (ForbiddenValues-F.Or left right) = left.value
+abbrev pub items_of : Forbidden → List Item
+items_of nothing = []
+items_of (alone item) = item ∷ []
+items_of (or left right) = items_of left ++ items_of right
 
 -- what the very leftmost leaf offers
+abbrev pub head_of : Forbidden → Option (List Pair)
+head_of nothing = None
+head_of (alone item) = Some (offer item)
+head_of (or left right) = head_of left
+
+-- the very rightmost leaf is a pattern
+abbrev pub ends_in_pattern : Forbidden → Bool
+ends_in_pattern nothing = false
+ends_in_pattern (alone (pattern ps)) = true
+ends_in_pattern (alone (range at least greatest)) = false
+ends_in_pattern (or left right) = ends_in_pattern right
+
+-- each leaf, moved
+abbrev pub moved_tree : ℕ → Forbidden → Forbidden
+moved_tree by nothing = nothing
+moved_tree by (alone item) = alone (moved_item by item)
+moved_tree by (or left right) = or (moved_tree by left) (moved_tree by right)
+
+-- two joined: nothing gives way, a range stands before what it is joined with, all else after it
+abbrev pub joined : Forbidden → Forbidden → Forbidden
+joined nothing other = other
+joined (alone (range at least greatest)) other = or (alone (range at least greatest)) other
+joined (alone (pattern ps)) other = or other (alone (pattern ps))
+joined (or left right) other = or other (or left right)
+
+-- items joined to a tree one after the other, each to the right of those before it
+abbrev pub joined_from : Forbidden → List Item → Forbidden
+joined_from so_far [] = so_far
+joined_from so_far (item ∷ its) = joined_from (or so_far (alone item)) its
+
+-- the tree of these items, made from the left
+abbrev pub tree_of : List Item → Forbidden
+tree_of [] = nothing
+tree_of (item ∷ its) = joined_from (alone item) its
+
+abbrev pub items : ForbiddenValues → List Item
+items v = items_of (tree v)
+
 abbrev pub head : ForbiddenValues → Option (List Pair)
-head = fold-ForbiddenValues (Option (List Pair)) head_step
+head v = head_of (tree v)
 
 -- the patterns that the items offer, in order
 abbrev pub offered : List Item → List (List Pair)
@@ -86,50 +130,6 @@ single single_variant.Saturator = None
 single single_variant.End = None
 single (single_variant.Array p) = Some p
 
-abbrev pub nothing_step : ForbiddenValues-F Bool → Bool
-nothing_step ForbiddenValues-F.End = true
-nothing_step (ForbiddenValues-F.Array p) = false
-nothing_step (ForbiddenValues-F.ForbiddenRange least greatest at) = false
-nothing_step (ForbiddenValues-F.Or left right) = false
-
--- nothing is forbidden, and it is written as such
-abbrev pub is_nothing : ForbiddenValues → Bool
-is_nothing = fold-ForbiddenValues Bool nothing_step
-
-abbrev pub one_range_step : ForbiddenValues-F Bool → Bool
-one_range_step ForbiddenValues-F.End = false
-one_range_step (ForbiddenValues-F.Array p) = false
-one_range_step (ForbiddenValues-F.ForbiddenRange least greatest at) = true
-one_range_step (ForbiddenValues-F.Or left right) = false
-
--- one range and no more
-abbrev pub is_one_range : ForbiddenValues → Bool
-is_one_range = fold-ForbiddenValues Bool one_range_step
-
-abbrev pub last_step : ForbiddenValues-F Bool → Bool
-last_step ForbiddenValues-F.End = false
-last_step (ForbiddenValues-F.Array p) = true
-last_step (ForbiddenValues-F.ForbiddenRange least greatest at) = false
-last_step (ForbiddenValues-F.Or left right) = right.value
-
--- the very rightmost leaf is a pattern
-abbrev pub ends_in_pattern : ForbiddenValues → Bool
-ends_in_pattern = fold-ForbiddenValues Bool last_step
-
 -- the first pattern that the values offer in bytes that are wholly in the set
-abbrev pub first_lying : List Pair → ForbiddenValues → Option (List Pair)
-first_lying free v = find (lies_free free) (offered (items v))
-
--- the items of two values joined: a range stands before what it is joined with, all else after it
-abbrev pub joined_items : ForbiddenValues → ForbiddenValues → List Item
-joined_items v w = if is_one_range v then items v ++ items w else items w ++ items v
-
--- the head of two values joined
-abbrev pub joined_head : ForbiddenValues → ForbiddenValues → Option (List Pair)
-joined_head v w = if is_one_range v then head v else head w
-
--- where the first of two forbids something, what is joined of them ends as the one that stands last
-abbrev pub IsEndOf : ForbiddenValues → ForbiddenValues → ForbiddenValues → Type 0
-IsEndOf v w both =
-    is_nothing v ≡ false
-    → ends_in_pattern both ≡ (if is_one_range v then ends_in_pattern w else ends_in_pattern v)
+abbrev pub first_lying : List Pair → Forbidden → Option (List Pair)
+first_lying free t = find (lies_free free) (offered (items_of t))

@@ -1,5 +1,5 @@
 -- Laws of sets of bits and of niche counts.
-use Rattle.std.specs.Prelude.{◌≡◌, ◌↔◌, ℕ, ◌/◌, ◌%◌, ◌^◌, Some, ◌<◌, ◌≤◌, List, true, nat_lt, if◌then◌else◌}
+use Rattle.std.specs.Prelude.{◌≡◌, ℕ, ◌/◌, ◌%◌, ◌^◌, Some, ◌<◌, ◌≤◌, List, true, nat_lt, if◌then◌else◌}
 use Rattle.abi_bits.specs.Pairs.{Pair, are_below, max_size}
 use Rattle.abi_bits.specs.Mask.{mask_at, Has, HasBytes, HasBits, IsMask, IsLeast, least_bit, entries_below}
 

@@ -1,5 +1,6 @@
 pub mod Count
 pub mod Forbidden
+pub mod ForbiddenCode
 pub mod Laws
 pub mod Mask
 pub mod Pairs

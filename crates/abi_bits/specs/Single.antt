@@ -1,8 +1,7 @@
 -- Answers of a search among forbidden values.
 use Rattle.std.specs.Prelude.{List, [], ◌∷◌, Bool, true, false, Option, Some, None}
 use Rattle.abi_bits.specs.Pairs.{Pair}
-use Rattle.abi_bits.specs.Forbidden.{first_lying, ends_in_pattern}
-use Rattle.abi_bits.specs.declared.forbidden_values.ForbiddenValues.{ForbiddenValues}
+use Rattle.abi_bits.specs.Forbidden.{Forbidden, first_lying, ends_in_pattern}
 use Rattle.abi_bits.specs.declared.single_forbidden_value.SingleForbiddenValue.{SingleForbiddenValue}
 use Rattle.abi_bits.specs.declared.single_forbidden_value.SingleForbiddenValue.TheVariants.{Saturator, End, Array}
 
@@ -13,8 +12,8 @@ answer None true = Saturator
 answer None false = End
 
 -- what a search for a pattern in wholly free bytes answers
-abbrev pub selected : List Pair → ForbiddenValues → SingleForbiddenValue
-selected free v = answer (first_lying free v) (ends_in_pattern v)
+abbrev pub selected : List Pair → Forbidden → SingleForbiddenValue
+selected free t = answer (first_lying free t) (ends_in_pattern t)
 
 -- the pairs of the found pattern
 abbrev pub pairs_of : SingleForbiddenValue → List Pair

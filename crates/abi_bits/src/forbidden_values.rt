@@ -1,10 +1,8 @@
-ghost use Rattle.std.specs.Prelude.{◌≡◌, ◌↔◌, ◌+◌, ◌++◌, true, false, IsTrue, IfOk, OnOk, length, slice_index, map, if◌then◌else◌};
-ghost use Rattle.std.specs.List.{list_all, list_any, find};
-ghost use Rattle.std.specs.Option.{option_map};
-ghost use Rattle.abi_bits.specs.Pairs.{is_pattern, are_bytes, are_below, is_matched, moved_pairs};
-ghost use Rattle.abi_bits.specs.Mask.{lies_free};
+ghost use Rattle.std.specs.Prelude.{◌≡◌, ◌↔◌, ◌++◌, false, IsTrue, IfOk, OnOk, length, slice_index, map};
+ghost use Rattle.std.specs.List.{list_all, list_any};
+ghost use Rattle.abi_bits.specs.Pairs.{is_pattern, are_bytes, are_below};
 ghost use Rattle.abi_bits.specs.Single.{answer, selected};
-ghost use Rattle.abi_bits.specs.Forbidden.{items, head, single, offered, is_match, is_ranged, are_items_below, AreSound, is_solid_byte, is_solid_item, moved_item, is_nothing, is_one_range, ends_in_pattern, first_lying, joined_items, joined_head, IsEndOf};
+ghost use Rattle.abi_bits.specs.Forbidden.{Forbidden, or, tree, items, head, single, offered, is_match, is_ranged, are_items_below, AreSound, is_solid_byte, is_solid_item, moved_item, moved_tree, joined, first_lying};
 
 use crate::bit_mask::BitMask;
 use crate::pairs::are_below;
@@ -38,11 +36,11 @@ impl ForbiddenValues {
     /// Whether the bytes have a value that is forbidden.
     pub fn is_invalid(&self, bytes: &[u8]) -> bool
         requires { IsTrue (are_items_below (length bytes.now) (items self.now)) }
-        ensures { result ≡ list_any (is_match (λ at. slice_index bytes.now at)) (items self.now) }
+        ensures { result ≡ list_any (is_match (slice_index bytes.now)) (items self.now) }
     {
         match self {
             ForbiddenValues::End => false,
-            ForbiddenValues::Array(pattern) => is_matched(pattern.pairs(), bytes),
+            ForbiddenValues::Array(pattern) => pattern.is_matched(bytes),
             ForbiddenValues::ForbiddenRange { min, max, offset } => {
                 let byte = bytes[*offset as usize];
                 *min <= byte && byte <= *max
@@ -101,8 +99,7 @@ impl ForbiddenValues {
                 Ok(())
             }
             ForbiddenValues::ForbiddenRange { min, offset, .. } => {
-                let pattern = Pattern::of_byte(alloc, *offset, *min)?;
-                patterns.push(pattern)?;
+                patterns.push(Pattern::of_byte(alloc, *offset, *min)?)?;
                 Ok(())
             }
             ForbiddenValues::Or(left, right) => {
@@ -121,8 +118,8 @@ impl ForbiddenValues {
         mask: &BitMask,
     ) -> Result<SingleForbiddenValue, OutOfMemory>
         requires { AreSound (items self.now) }
-        ensures same { IfOk result (λ found. found ≡ selected mask.now self.now) }
-        ensures pattern { IfOk result (λ found. single found ≡ first_lying mask.now self.now) }
+        ensures same { IfOk result (λ found. found ≡ selected mask.now (tree self.now)) }
+        ensures pattern { IfOk result (λ o. single o ≡ first_lying mask.now (tree self.now)) }
     {
         match self {
             ForbiddenValues::End => Ok(SingleForbiddenValue::End),
@@ -153,11 +150,7 @@ impl ForbiddenValues {
     /// The same values, `by` bytes further on.
     pub fn shift(&self, alloc: Global, by: u64) -> Result<ForbiddenValues, OutOfMemory>
         requires { IsTrue (are_items_below MAX_SIZE (map (moved_item by) (items self.now))) }
-        ensures items { IfOk result (λ moved. items moved ≡ map (moved_item by) (items self.now)) }
-        ensures head { IfOk result (λ m. head m ≡ option_map (moved_pairs by) (head self.now)) }
-        ensures nothing { IfOk result (λ moved. is_nothing moved ≡ is_nothing self.now) }
-        ensures range { IfOk result (λ moved. is_one_range moved ≡ is_one_range self.now) }
-        ensures last { IfOk result (λ moved. ends_in_pattern moved ≡ ends_in_pattern self.now) }
+        ensures { IfOk result (λ moved. tree moved ≡ moved_tree by (tree self.now)) }
     {
         match self {
             ForbiddenValues::End => Ok(ForbiddenValues::End),
@@ -187,11 +180,7 @@ impl ForbiddenValues {
         left: ForbiddenValues,
         right: ForbiddenValues,
     ) -> Result<ForbiddenValues, OutOfMemory>
-        ensures items { IfOk result (λ both. items both ≡ items left ++ items right) }
-        ensures head { IfOk result (λ both. head both ≡ head left) }
-        ensures nothing { IfOk result (λ both. is_nothing both ≡ false) }
-        ensures range { IfOk result (λ both. is_one_range both ≡ false) }
-        ensures last { IfOk result (λ both. ends_in_pattern both ≡ ends_in_pattern right) }
+        ensures { IfOk result (λ both. tree both ≡ or (tree left) (tree right)) }
     {
         let left = Box::new(alloc, left)?;
         let right = Box::new(alloc, right)?;
@@ -200,11 +189,7 @@ impl ForbiddenValues {
 
     /// Equal values.
     pub fn copy(&self, alloc: Global) -> Result<ForbiddenValues, OutOfMemory>
-        ensures items { IfOk result (λ copy. items copy ≡ items self.now) }
-        ensures head { IfOk result (λ copy. head copy ≡ head self.now) }
-        ensures nothing { IfOk result (λ copy. is_nothing copy ≡ is_nothing self.now) }
-        ensures range { IfOk result (λ copy. is_one_range copy ≡ is_one_range self.now) }
-        ensures last { IfOk result (λ copy. ends_in_pattern copy ≡ ends_in_pattern self.now) }
+        ensures { IfOk result (λ copy. tree copy ≡ tree self.now) }
     {
         match self {
             ForbiddenValues::End => Ok(ForbiddenValues::End),
@@ -231,10 +216,7 @@ impl ForbiddenValues {
     /// What either forbids: `other` where this forbids nothing; this before `other` where it is a range, else
     /// `other` before this. Both are dropped where memory is refused.
     pub fn or(self, alloc: Global, other: ForbiddenValues) -> Result<ForbiddenValues, OutOfMemory>
-        ensures nothing { is_nothing self ≡ true → IfOk result (λ both. both ≡ other) }
-        ensures items { IfOk result (λ both. items both ≡ joined_items self other) }
-        ensures head { IfOk result (λ both. head both ≡ joined_head self other) }
-        ensures last { IfOk result (IsEndOf self other) }
+        ensures { IfOk result (λ both. tree both ≡ joined (tree self) (tree other)) }
     {
         match self {
             ForbiddenValues::End => Ok(other),
@@ -312,18 +294,6 @@ fn are_bytes(pairs: &[(u64, u8)])
     for (_, byte) in pairs {
         let _byte = *byte;
     }
-}
-
-fn is_matched(pairs: &[(u64, u8)], bytes: &[u8]) -> bool
-    requires { IsTrue (are_below (length bytes.now) pairs.now) }
-    ensures { result ≡ is_matched pairs.now (λ at. slice_index bytes.now at) }
-{
-    for (offset, byte) in pairs {
-        if bytes[*offset as usize] != *byte {
-            return false;
-        }
-    }
-    true
 }
 
 fn are_solid(pairs: &[(u64, u8)], size: u64, free: &BitMask) -> bool

@@ -11,8 +11,6 @@ mod saturating_add_value;
 mod single_forbidden_value;
 mod span;
 mod steps;
-#[cfg(test)]
-mod tests;
 mod walk;
 
 use abi_num::Items;

@@ -1,5 +1,5 @@
-ghost use Rattle.std.specs.Prelude.{◌≡◌, ◌↔◌, ◌<◌, [], ◌∷◌, IsTrue, IsSome, IfSome, IfOk};
-ghost use Rattle.abi_bits.specs.Pairs.{is_pattern, IsPattern, are_below, moved_pairs, first_offset};
+ghost use Rattle.std.specs.Prelude.{◌≡◌, ◌↔◌, ◌<◌, [], ◌∷◌, IsTrue, IsSome, IfSome, IfOk, length, slice_index};
+ghost use Rattle.abi_bits.specs.Pairs.{is_pattern, IsPattern, is_matched, are_below, moved_pairs, first_offset};
 
 use crate::pairs::{are_rising, moved, with_front};
 use crate::{MAX_SIZE, Pairs};
@@ -80,6 +80,14 @@ impl Pattern {
         Ok(Pattern { pairs })
     }
 
+    /// Whether every named byte has its value.
+    pub fn is_matched(&self, bytes: &[u8]) -> bool
+        requires { IsTrue (are_below (length bytes.now) self.now) }
+        ensures { result ≡ is_matched self.now (slice_index bytes.now) }
+    {
+        is_matched(self.pairs.as_slice(), bytes)
+    }
+
     /// An equal pattern.
     pub fn copy(&self, alloc: Global) -> Result<Pattern, OutOfMemory>
         ensures { IfOk result (λ pattern. pattern ≡ self.now) }
@@ -93,4 +101,16 @@ fn is_pattern(pairs: &[(u64, u8)]) -> bool
     ensures { result ≡ is_pattern pairs.now }
 {
     !pairs.is_empty() && are_rising(pairs)
+}
+
+fn is_matched(pairs: &[(u64, u8)], bytes: &[u8]) -> bool
+    requires { IsTrue (are_below (length bytes.now) pairs.now) }
+    ensures { result ≡ is_matched pairs.now (slice_index bytes.now) }
+{
+    for (offset, byte) in pairs {
+        if bytes[*offset as usize] != *byte {
+            return false;
+        }
+    }
+    true
 }

@@ -88,7 +88,6 @@ sound_sum rules ok err so se small = record {
   mask = exported_mask (first_offer rules (larger ok err) (smaller ok err) (union_size ok err) 8) (placements_sound rules ok err so se);
   patterns = refl;
   bytes = refl;
-  leads = λ ps is. absurd (cc);
 }
   where
     exported_mask : (o : Option (ℕ × Niche)) → IsSoundPlacement ok err (placement_of ok err o) → IsMask (placement_of ok err o).exported

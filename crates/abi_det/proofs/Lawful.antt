@@ -9,18 +9,18 @@ use Rattle.abi_num.specs.Alignment.{is_alignment}
 use Rattle.abi_bits.specs.Pairs.{Pair, are_below}
 use Rattle.abi_bits.specs.Mask.{mask_at}
 use Rattle.abi_bits.specs.Forbidden.{Item, pattern, range, is_item_below, are_items_below, is_ranged, AreSound, is_solid_byte, is_solid_item}
-use Rattle.abi_det.specs.Frame.{Frame, IsLawful}
+use Rattle.abi_det.specs.Frame.{Frame, IsLawful, forbids}
 
 pub record Parts (f : Frame) : Type 0 where
   pub align : is_alignment f.align ≡ true
   pub size : f.size ≤ 1048576
   pub multiple : f.size % f.align ≡ 0
   pub free : are_below f.size f.free ≡ true
-  pub solid : list_all (is_solid_item f.size f.free) f.forbids ≡ true
+  pub solid : list_all (is_solid_item f.size f.free) (forbids f) ≡ true
 
 pub parts : (f : Frame) → IsLawful f → Parts f
 parts f h =
-    let a = and_parts (is_alignment f.align && leb f.size 1048576 && eqb (f.size % f.align) 0 && are_below f.size f.free) (list_all (is_solid_item f.size f.free) f.forbids) h in
+    let a = and_parts (is_alignment f.align && leb f.size 1048576 && eqb (f.size % f.align) 0 && are_below f.size f.free) (list_all (is_solid_item f.size f.free) (forbids f)) h in
     let b = and_parts (is_alignment f.align && leb f.size 1048576 && eqb (f.size % f.align) 0) (are_below f.size f.free) a.0 in
     let c = and_parts (is_alignment f.align && leb f.size 1048576) (eqb (f.size % f.align) 0) b.0 in
     let d = and_parts (is_alignment f.align) (leb f.size 1048576) c.0 in
@@ -68,10 +68,10 @@ ranged size free (it ∷ its) h =
     let q = and_parts (is_solid_item size free it) (list_all (is_solid_item size free) its) h in
     and_from (is_ranged it) (list_all is_ranged its) (item_ranged size free it q.0) (ranged size free its q.1)
 
-pub items_in_bytes : (f : Frame) (n : ℕ) → IsLawful f → f.size ≤ n → are_items_below n f.forbids ≡ true
-items_in_bytes f n h le = items_in f.size n f.free f.forbids le (parts f h).solid
+pub items_in_bytes : (f : Frame) (n : ℕ) → IsLawful f → f.size ≤ n → are_items_below n (forbids f) ≡ true
+items_in_bytes f n h le = items_in f.size n f.free (forbids f) le (parts f h).solid
 
-pub sound_items : (f : Frame) → IsLawful f → AreSound f.forbids
+pub sound_items : (f : Frame) → IsLawful f → AreSound (forbids f)
 sound_items f h =
     let p = parts f h in
-    and_from (are_items_below 1048576 f.forbids) (list_all is_ranged f.forbids) (items_in f.size 1048576 f.free f.forbids p.size p.solid) (ranged f.size f.free f.forbids p.solid)
+    and_from (are_items_below 1048576 (forbids f)) (list_all is_ranged (forbids f)) (items_in f.size 1048576 f.free (forbids f) p.size p.solid) (ranged f.size f.free (forbids f) p.solid)

@@ -12,6 +12,8 @@ pub mod Niches
 pub mod SoundPlacements
 pub mod Patterns
 pub mod Places
+pub mod PlaceLaws
+pub mod PlaceRows
 pub mod Placing
 pub mod Refused
 pub mod Refusing

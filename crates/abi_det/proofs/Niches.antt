@@ -10,7 +10,7 @@ use Rattle.abi_bits.specs.Mask.{mask_at, IsMask, entries_below, least_bit}
 use Rattle.abi_bits.specs.Forbidden.{offered}
 use Rattle.abi_bits.proofs.Entries.{mask_at_lt}
 use Rattle.abi_bits.proofs.Least.{low_bit}
-use Rattle.abi_det.specs.Frame.{Frame}
+use Rattle.abi_det.specs.Frame.{Frame, forbids}
 use Rattle.abi_det.specs.Roles.{union_byte, lies_free, spare_byte, is_place}
 use Rattle.abi_det.specs.Offers.{Rules, Niche, or_else, by_pattern, by_bit, smaller_pattern, larger_pattern, leading_pattern, shared_bit, offer_at, numbered, first_offer}
 use Rattle.abi_det.specs.Niches.{IsFreePattern, IsFreeBit, IsLeading, IsNiche, rank, IsSooner, IsFirstAt, OffersNone, IsFirstBelow}
@@ -168,19 +168,19 @@ module _ (rules : Rules) (large small : Frame) (size : ℕ) where
 
   wrap_smaller : (k : ℕ) → small.size ≢ 0 → IsFirst kind.SmallerPattern (IsNiche rules large small size k kind.SmallerPattern) (by_pattern kind.SmallerPattern (smaller_pattern large small size (k * small.align)))
   wrap_smaller k some =
-      let pss : List (List Pair) = map (moved_pairs (k * small.align)) (offered small.forbids) in
+      let pss : List (List Pair) = map (moved_pairs (k * small.align)) (offered (forbids small)) in
       let free : ℕ → ℕ = union_byte large 0 size in
       first_of_same kind.SmallerPattern (IsFreePattern free pss) (IsNiche rules large small size k kind.SmallerPattern) (λ n t is. (some, is)) (λ n t is. is.1)
       (by_pattern kind.SmallerPattern (find (lies_free free) pss)) (pattern_first kind.SmallerPattern free pss (find (lies_free free) pss) (found (lies_free free) [] pss))
 
   wrap_larger : (k : ℕ) → small.size ≢ 0 → IsFirst kind.LargerPattern (IsNiche rules large small size k kind.LargerPattern) (by_pattern kind.LargerPattern (larger_pattern large small size (k * small.align)))
   wrap_larger k some =
-      let pss : List (List Pair) = offered large.forbids in
+      let pss : List (List Pair) = offered (forbids large) in
       let free : ℕ → ℕ = union_byte small (k * small.align) size in
       first_of_same kind.LargerPattern (IsFreePattern free pss) (IsNiche rules large small size k kind.LargerPattern) (λ n t is. inr (some, is)) back
       (by_pattern kind.LargerPattern (find (lies_free free) pss)) (pattern_first kind.LargerPattern free pss (find (lies_free free) pss) (found (lies_free free) [] pss))
     where
-      back : (n : ℕ) (t : Test) → IsNiche rules large small size k kind.LargerPattern n t → IsFreePattern (union_byte small (k * small.align) size) (offered large.forbids) n t
+      back : (n : ℕ) (t : Test) → IsNiche rules large small size k kind.LargerPattern n t → IsFreePattern (union_byte small (k * small.align) size) (offered (forbids large)) n t
       back n t (inl is) = absurd (some is.0)
       back n t (inr is) = is.1
 

@@ -8,7 +8,7 @@ use Rattle.std.proofs.lemmas.Bool.{and_parts, and_from, or_left, or_right, or_ca
 use Rattle.abi_bits.specs.Pairs.{Pair, moved_pairs, is_matched, is_pattern, IsPattern, are_below}
 use Rattle.abi_bits.specs.Mask.{mask_at}
 use Rattle.abi_bits.specs.Forbidden.{Item, pattern, range, offer, offered, is_match, is_solid_byte, is_solid_item}
-use Rattle.abi_det.specs.Frame.{Frame}
+use Rattle.abi_det.specs.Frame.{Frame, forbids}
 use Rattle.abi_det.specs.Roles.{lies_free}
 use Rattle.abi_det.specs.State.{seen_from}
 use Rattle.abi_det.specs.SoundPlacement.{are_bytes, IsWellFormed, is_free_at}
@@ -99,29 +99,29 @@ moved_bytes shift (p ∷ ps) h =
     and_from (ltb p.1 256) (are_bytes (moved_pairs shift ps)) a.0 (moved_bytes shift ps a.1)
 
 -- pattern number n that the frame offers, at the variant's place
-module _ (f : Frame) (sound : IsWellFormed f) (shift n : ℕ) (there : n < length (offered f.forbids)) where
+module _ (f : Frame) (sound : IsWellFormed f) (shift n : ℕ) (there : n < length (offered (forbids f))) where
   abbrev pub moved : List Pair
-  moved = moved_pairs shift (get_or (offered f.forbids) n [])
+  moved = moved_pairs shift (get_or (offered (forbids f)) n [])
 
-  solid : AreSolid f.size f.free (get_or (offered f.forbids) n [])
-  solid = all_nth (λ ps. list_all (λ p. is_solid_byte f.size f.free p.0) ps) [] (offered f.forbids) n
-      (solid_offers f.size f.free f.forbids (parts f sound.lawful).solid) there
+  solid : AreSolid f.size f.free (get_or (offered (forbids f)) n [])
+  solid = all_nth (λ ps. list_all (λ p. is_solid_byte f.size f.free p.0) ps) [] (offered (forbids f)) n
+      (solid_offers f.size f.free (forbids f) (parts f sound.lawful).solid) there
 
   pub pattern_not_free : (at k : ℕ) → list_any (λ p. eqb p.0 at) moved ≡ true → is_free_at f shift at k ≡ false
   pattern_not_free at k named =
-      let q = solid_named f.size f.free shift at (get_or (offered f.forbids) n []) solid named in
+      let q = solid_named f.size f.free shift at (get_or (offered (forbids f)) n []) solid named in
       not_free f shift at k q.0 q.1 q.2 q.3
 
-  pub pattern_forbidden : (image : ℕ → ℕ) → is_matched moved image ≡ true → list_any (is_match (seen_from shift image)) f.forbids ≡ true
+  pub pattern_forbidden : (image : ℕ → ℕ) → is_matched moved image ≡ true → list_any (is_match (seen_from shift image)) (forbids f) ≡ true
   pattern_forbidden image m =
-      offered_match f.size f.free f.forbids n (seen_from shift image) (parts f sound.lawful).solid there (moved_match shift (get_or (offered f.forbids) n []) image m)
+      offered_match f.size f.free (forbids f) n (seen_from shift image) (parts f sound.lawful).solid there (moved_match shift (get_or (offered (forbids f)) n []) image m)
 
   pub pattern_in : (size : ℕ) → shift + f.size ≤ size → size ≤ 1048576 → IsPattern moved × (are_below size moved ≡ true) × (are_bytes moved ≡ true)
   pattern_in size inside small =
-      let ps : List Pair = get_or (offered f.forbids) n [] in
-      let is : IsPattern ps = all_nth is_pattern [] (offered f.forbids) n sound.patterns there in
+      let ps : List Pair = get_or (offered (forbids f)) n [] in
+      let is : IsPattern ps = all_nth is_pattern [] (offered (forbids f)) n sound.patterns there in
       let own : are_below f.size ps ≡ true = bytes_in f.size f.size f.free ps (omega arith) solid in (
         moved_is_pattern shift ps moved is (moved_below shift f.size 1048576 ps own (omega (arith, inside, small))) refl,
         moved_below shift f.size size ps own (omega (arith, inside)),
-        moved_bytes shift ps (all_nth are_bytes [] (offered f.forbids) n sound.bytes there),
+        moved_bytes shift ps (all_nth are_bytes [] (offered (forbids f)) n sound.bytes there),
       )

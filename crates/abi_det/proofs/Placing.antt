@@ -15,7 +15,6 @@ use Rattle.abi_det.specs.Written.{means_ok, exported, shared_bits, niched, tagge
 use Rattle.abi_det.specs.Counted.{found_of, niche_in, IsNicheOf}
 use Rattle.abi_det.specs.declared.counted.Found.{Found}
 use Rattle.abi_det.specs.declared.offers.Offer.{Offer}
-use Rattle.abi_det.specs.declared.placements.Placement.{Placement}
 use Rattle.abi_det.specs.declared.placements.Refusal.{Refusal}
 use Rattle.abi_det.specs.declared.placements.Kind.{Kind}
 use Rattle.abi_det.specs.declared.placements.Kind.TheVariants as kind

@@ -3,7 +3,7 @@ use Rattle.std.proofs.Common.{◌*◌, ◌<◌, eqb, map, arith, ◌≡◌, ℕ,
 use Rattle.std.proofs.lemmas.Bool.{ne_eqb}
 use Rattle.abi_bits.specs.Pairs.{moved_pairs}
 use Rattle.abi_bits.specs.Forbidden.{offered}
-use Rattle.abi_det.specs.Frame.{Frame}
+use Rattle.abi_det.specs.Frame.{Frame, forbids}
 use Rattle.abi_det.specs.Roles.{is_place, union_byte}
 use Rattle.abi_det.specs.Written.{first_blocking, refusal_at, refusals_below}
 use Rattle.abi_det.specs.declared.placements.Refusal.{Refusal}
@@ -25,9 +25,9 @@ module _ (large small : Frame) (size : ℕ) where
 
   -- the first blocking byte of each pattern refuses a place of a variant that is not empty
   pub refused_beside : (k shift : ℕ) (smaller larger : List ℕ) → 0 < small.size → shift ≡ k * small.align
-      → smaller ≡ map (first_blocking (union_byte large 0 size)) (map (moved_pairs shift) (offered small.forbids))
-      → larger ≡ map (first_blocking (union_byte small shift size)) (map (moved_pairs 0) (offered large.forbids))
+      → smaller ≡ map (first_blocking (union_byte large 0 size)) (map (moved_pairs shift) (offered (forbids small)))
+      → larger ≡ map (first_blocking (union_byte small shift size)) (map (moved_pairs 0) (offered (forbids large)))
       → record { place = k; smaller = smaller; larger = larger } ≡ refusal_at large small size k
   refused_beside k shift smaller larger some at first second =
       let beside : eqb small.size 0 ≡ false = ne_eqb small.size 0 (λ q. absurd (omega (arith, some, q))) in
-      rw (beside, first, second, all_moved_by_none (offered large.forbids), at) refl
+      rw (beside, first, second, all_moved_by_none (offered (forbids large)), at) refl

@@ -7,7 +7,7 @@ use Rattle.std.proofs.lemmas.Bool.{and_parts, and_from, or_left, or_right, ltb-t
 use Rattle.abi_bits.specs.Pairs.{Pair, moved_pairs}
 use Rattle.abi_bits.specs.Mask.{IsMask}
 use Rattle.abi_bits.specs.Forbidden.{offered}
-use Rattle.abi_det.specs.Frame.{Frame}
+use Rattle.abi_det.specs.Frame.{Frame, forbids}
 use Rattle.abi_det.specs.Roles.{union_byte, lies_free, is_place, union_size, larger, smaller, ok_is_larger}
 use Rattle.abi_det.specs.Offers.{Rules, Niche, leading_pattern, shared_bit, by_bit, first_offer}
 use Rattle.abi_det.specs.Written.{first_blocking, refusal_at, refusals_below, is_blocking, are_blocking, is_none_named, refuses, placement_of, written_placement}
@@ -160,10 +160,10 @@ rise_push (s ∷ rs) least r rise all le =
 
 module _ (rules : Rules) (large small : Frame) (size : ℕ) (m : IsMask large.free) where
   abbrev blocking_smaller : ℕ → List ℕ → Bool
-  blocking_smaller k ats = are_blocking (union_byte large 0 size) (map (moved_pairs (k * small.align)) (offered small.forbids)) ats
+  blocking_smaller k ats = are_blocking (union_byte large 0 size) (map (moved_pairs (k * small.align)) (offered (forbids small))) ats
 
   abbrev blocking_larger : ℕ → List ℕ → Bool
-  blocking_larger k ats = are_blocking (union_byte small (k * small.align) size) (offered large.forbids) ats
+  blocking_larger k ats = are_blocking (union_byte small (k * small.align) size) (offered (forbids large)) ats
 
   abbrev none_shared : ℕ → Bool
   none_shared k = is_none (shared_bit large small size (k * small.align))
@@ -200,12 +200,12 @@ module _ (rules : Rules) (large small : Frame) (size : ℕ) (m : IsMask large.fr
   -- a place that has a refusal that holds offers nothing
   refused_offers_none : (r : Refusal) → refuses rules large small size r ≡ true → (a : Kind) (n : ℕ) (t : Test) → IsNiche rules large small size r.place a n t → ⊥
   refused_offers_none r is kind.SmallerPattern n t niche =
-      let pss : List (List Pair) = map (moved_pairs (r.place * small.align)) (offered small.forbids) in
+      let pss : List (List Pair) = map (moved_pairs (r.place * small.align)) (offered (forbids small)) in
       let free : ℕ → ℕ = union_byte large 0 size in
       both_ways (lies_free free (get_or pss n [])) (none_lies free pss r.smaller (of_some r niche.0 is).0 n niche.1.0) niche.1.1
   refused_offers_none r is kind.LargerPattern n t (inl niche) = not_leading (leading_pattern rules large) n t (of_empty r niche.0 is) niche.1
   refused_offers_none r is kind.LargerPattern n t (inr niche) =
-      let pss : List (List Pair) = offered large.forbids in
+      let pss : List (List Pair) = offered (forbids large) in
       let free : ℕ → ℕ = union_byte small (r.place * small.align) size in
       both_ways (lies_free free (get_or pss n [])) (none_lies free pss r.larger (of_some r niche.0 is).1 n niche.1.0) niche.1.1
   refused_offers_none r is kind.SharedBit n t niche =
@@ -229,8 +229,8 @@ module _ (rules : Rules) (large small : Frame) (size : ℕ) (m : IsMask large.fr
         | inr some ↦
             let t : eqb small.size 0 ≡ false = ne_eqb small.size 0 some in
             let fits = ltb k 8 && leb (k * small.align + small.size) size in
-            let pss : List (List Pair) = map (moved_pairs (k * small.align)) (offered small.forbids) in
-            let qss : List (List Pair) = offered large.forbids in
+            let pss : List (List Pair) = map (moved_pairs (k * small.align)) (offered (forbids small)) in
+            let qss : List (List Pair) = offered (forbids large) in
             let free : ℕ → ℕ = union_byte large 0 size in
             let free_too : ℕ → ℕ = union_byte small (k * small.align) size in
             let a : are_blocking free pss (map (first_blocking free) pss) ≡ true = all_block free pss (λ n lt. false_from_ne_true (lies_free free (get_or pss n []))

@@ -10,7 +10,7 @@ use Rattle.abi_num.specs.Alignment.{is_alignment, IsAlignment}
 use Rattle.std.specs.List.{list_all}
 use Rattle.abi_bits.specs.Pairs.{are_below}
 use Rattle.abi_bits.specs.Forbidden.{is_solid_item}
-use Rattle.abi_det.specs.Frame.{Frame, IsLawful}
+use Rattle.abi_det.specs.Frame.{Frame, IsLawful, forbids}
 use Rattle.abi_det.specs.Roles.{sum_align, union_size}
 use Rattle.abi_det.specs.Laws.{UnionLaw, RoundLaw}
 use Rattle.abi_det.proofs.Lawful.{parts, positive}
@@ -82,13 +82,13 @@ rounded_small a n le al =
     no_further m n (m / n) d.0 (omega (arith, div-add-mod m n, r.2)) d.1 (omega (arith, le, r.1))
 
 pub lawful_from : (f : Frame) → IsAlignment f.align → f.size ≤ 1048576 → f.size % f.align ≡ 0
-    → are_below f.size f.free ≡ true → list_all (is_solid_item f.size f.free) f.forbids ≡ true → IsLawful f
+    → are_below f.size f.free ≡ true → list_all (is_solid_item f.size f.free) (forbids f) ≡ true → IsLawful f
 lawful_from f aligned small whole below solid =
     let a = is_alignment f.align in
     let b = leb f.size 1048576 in
     let c = eqb (f.size % f.align) 0 in
     let d = are_below f.size f.free in
-    let e = list_all (is_solid_item f.size f.free) f.forbids in
+    let e = list_all (is_solid_item f.size f.free) (forbids f) in
     and_from (a && b && c && d) e
     (and_from (a && b && c) d
     (and_from (a && b) c (and_from a b aligned (le-leb f.size 1048576 small)) (eq-eqb (f.size % f.align) 0 whole)) below) solid

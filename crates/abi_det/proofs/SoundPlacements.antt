@@ -9,7 +9,7 @@ use Rattle.std.proofs.lemmas.Bool.{and_parts, ltb-true, leb-true, eqb-true, ne_e
 use Rattle.abi_bits.specs.Pairs.{Pair, moved_pairs}
 use Rattle.abi_bits.specs.Mask.{mask_at, IsMask, entries_below}
 use Rattle.abi_bits.specs.Forbidden.{offered}
-use Rattle.abi_det.specs.Frame.{Frame}
+use Rattle.abi_det.specs.Frame.{Frame, forbids}
 use Rattle.abi_det.specs.Roles.{union_byte, lies_free, spare_byte, is_place, union_size, larger, smaller, ok_is_larger, sum_align}
 use Rattle.abi_det.specs.State.{is_tested}
 use Rattle.abi_det.specs.Written.{without, beside_tag, means_ok, placement_of, tagged, niched, written_placement}
@@ -26,6 +26,7 @@ use Rattle.abi_det.specs.declared.determinant.Test.TheVariants as test
 use Rattle.abi_bits.proofs.Entries.{entries_at}
 use Rattle.abi_det.proofs.Niches.{search_first}
 use Rattle.abi_det.proofs.Moving.{moved_by_none}
+use Rattle.abi_det.proofs.Heads.{head_leads}
 use Rattle.abi_det.proofs.Patterns.{free_named, moved, pattern_not_free, pattern_forbidden, pattern_in}
 use Rattle.abi_det.proofs.Sizes.{sum_alignment, alignment_positive, union_rounded, union_small}
 
@@ -78,7 +79,7 @@ free_of_spare large small shift size at k is = elim (cases_eq small.size 0) [
       (free_of_union large 0 size at k (omega (arith, both, xs)), free_of_union small shift size at k (omega (arith, both, ys)))
 ]
 
-exported_bit : (bits : ℕ → ℕ) (n at k : ℕ) → bit_at (mask_at (entries_below bits n) at) k ≡ 1 → (at < n) × (bit_at (bits at) k ≡ 1)
+pub exported_bit : (bits : ℕ → ℕ) (n at k : ℕ) → bit_at (mask_at (entries_below bits n) at) k ≡ 1 → (at < n) × (bit_at (bits at) k ≡ 1)
 exported_bit bits n at k is = here (ltb at n) refl (rw (entries_at bits n at) at is)
   where
     here : (b : Bool) → ltb at n ≡ b → bit_at (cond b (bits at) 0) k ≡ 1 → (at < n) × (bit_at (bits at) k ≡ 1)
@@ -109,7 +110,7 @@ without_bit bits o m b at k q set is = elim (cases_eq at o) [
 ]
 
 -- the variant that offers the pattern never has it, and the pattern is absent where that variant stands
-pattern_owner : (f : Frame) (sound : IsWellFormed f) (shift n : ℕ) (there : n < length (offered f.forbids)) (exported : List Pair) (size : ℕ) → shift + f.size ≤ size
+pattern_owner : (f : Frame) (sound : IsWellFormed f) (shift n : ℕ) (there : n < length (offered (forbids f))) (exported : List Pair) (size : ℕ) → shift + f.size ≤ size
     → ((at k : ℕ) → k < 8 → bit_at (mask_at exported at) k ≡ 1 → is_free_at f shift at k ≡ true)
     → IsSide (test.ValueIsErr (moved f sound shift n there)) exported size f shift false
 pattern_owner f sound shift n there exported size inside exports = record {
@@ -153,12 +154,12 @@ get_or-moved shift [] n = refl
 get_or-moved shift (ps ∷ pss) zero = refl
 get_or-moved shift (ps ∷ pss) (suc n) = get_or-moved shift pss n
 
-leading_offered : (rules : Rules) (large : Frame) → IsWellFormed large → (ps : List Pair) → leading_pattern rules large ≡ Some ps
-    → (0 < length (offered large.forbids)) × (ps ≡ get_or (offered large.forbids) 0 [])
-leading_offered rules large sound ps is = first_there (offered large.forbids) (leads rules is)
+leading_offered : (rules : Rules) (large : Frame) (ps : List Pair) → leading_pattern rules large ≡ Some ps
+    → (0 < length (offered (forbids large))) × (ps ≡ get_or (offered (forbids large)) 0 [])
+leading_offered rules large ps is = first_there (offered (forbids large)) (leads rules is)
   where
-    leads : (rules : Rules) → leading_pattern rules large ≡ Some ps → first_of (offered large.forbids) ≡ Some ps
-    leads version.One is = sound.leads ps is
+    leads : (rules : Rules) → leading_pattern rules large ≡ Some ps → first_of (offered (forbids large)) ≡ Some ps
+    leads version.One is = head_leads large.forbidden ps is
     leads version.Two is = is
 
     first_there : (pss : List (List Pair)) → first_of pss ≡ Some ps → (0 < length pss) × (ps ≡ get_or pss 0 [])
@@ -196,7 +197,7 @@ module _ (large small : Frame) (size shift : ℕ) (sl : IsWellFormed large) (ss 
   inside_zero : 0 + large.size ≤ size
   inside_zero = omega (arith, inside_l)
 
-  smaller_sound : (n : ℕ) (there : n < length (offered small.forbids)) → lies_free (union_byte large 0 size) (moved small ss shift n there) ≡ true
+  smaller_sound : (n : ℕ) (there : n < length (offered (forbids small))) → lies_free (union_byte large 0 size) (moved small ss shift n there) ≡ true
       → IsSoundNiche large small size shift (test.ValueIsErr (moved small ss shift n there)) true
   smaller_sound n there lies =
       let ps : List Pair = moved small ss shift n there in
@@ -209,7 +210,7 @@ module _ (large small : Frame) (size shift : ℕ) (sl : IsWellFormed large) (ss 
         λ at k lt is. not_both (list_any (λ p. eqb p.0 at) ps) (is_free_at small shift at k) (free at k is).1 (pattern_not_free small ss shift n there at k),
       )
 
-  larger_sound : (n : ℕ) (there : n < length (offered large.forbids))
+  larger_sound : (n : ℕ) (there : n < length (offered (forbids large)))
       → ((at k : ℕ) → k < 8 → list_any (λ p. eqb p.0 at) (moved large sl 0 n there) ≡ true → is_free_at small shift at k ≡ true)
       → IsSoundNiche large small size shift (test.ValueIsErr (moved large sl 0 n there)) false
   larger_sound n there imposed =
@@ -239,7 +240,7 @@ niche_sound : (rules : Rules) (large small : Frame) (size k : ℕ) → IsWellFor
     → (a : Kind) (n : ℕ) (t : Test) → IsNiche rules large small size k a n t → IsSoundNiche large small size (k * small.align) t (means_larger a)
 niche_sound rules large small size k sl ss inside_l inside_s fits kind.SmallerPattern n t is =
     let shift : ℕ = k * small.align in
-    let pss : List (List Pair) = offered small.forbids in
+    let pss : List (List Pair) = offered (forbids small) in
     let e = get_or-moved shift pss n in
     let there : n < length pss = omega (arith, is.1.0, length-map pss (moved_pairs shift)) in
     subst (λ (x : Test). IsSoundNiche large small size shift x true) (sym (is.1.2 ∙ ap test.ValueIsErr e))
@@ -250,13 +251,13 @@ niche_sound rules large small size k sl ss inside_l inside_s fits kind.LargerPat
     leading : (o : Option (List Pair)) → leading_pattern rules large ≡ o → IsLeading o n t → IsSoundNiche large small size (k * small.align) t false
     leading None e lead = absurd lead
     leading (Some ps) e lead =
-        let first = leading_offered rules large sl ps e in
-        let q : moved large sl 0 0 first.0 ≡ ps = moved_by_none (get_or (offered large.forbids) 0 []) ∙ sym first.1 in
+        let first = leading_offered rules large ps e in
+        let q : moved large sl 0 0 first.0 ≡ ps = moved_by_none (get_or (offered (forbids large)) 0 []) ∙ sym first.1 in
         subst (λ (x : Test). IsSoundNiche large small size (k * small.align) x false) (ap test.ValueIsErr q ∙ sym lead.1)
         (larger_sound large small size (k * small.align) sl ss inside_l inside_s fits 0 first.0 (λ at i lt named. free_of_empty small (k * small.align) at i is.0))
 niche_sound rules large small size k sl ss inside_l inside_s fits kind.LargerPattern n t (inr is) =
     let shift : ℕ = k * small.align in
-    let ps : List Pair = get_or (offered large.forbids) n [] in
+    let ps : List Pair = get_or (offered (forbids large)) n [] in
     let q : moved large sl 0 n is.1.0 ≡ ps = moved_by_none ps in
     subst (λ (x : Test). IsSoundNiche large small size shift x false) (ap test.ValueIsErr q ∙ sym is.1.2)
     (larger_sound large small size shift sl ss inside_l inside_s fits n is.1.0

@@ -1,7 +1,7 @@
 -- The size of a union in the form in which it is computed, and the frame of a sum with its placement.
-use Rattle.std.proofs.Common.{◌≡◌, ◌+◌, ◌^◌, ◌<◌, ◌≤◌, max, ◌||◌, [], None, rules, refl, sym, ◌∙◌, subst, arith}
+use Rattle.std.proofs.Common.{◌≡◌, ◌+◌, ◌^◌, ◌<◌, ◌≤◌, max, ◌||◌, rules, refl, sym, ◌∙◌, subst, arith}
 use Rattle.std.specs.Int.{next_multiple_of}
-use Rattle.abi_bits.specs.Forbidden.{items, head}
+use Rattle.abi_bits.specs.Forbidden.{nothing, tree}
 use Rattle.abi_bits.specs.declared.forbidden_values.ForbiddenValues.{End, the_lemmas}
 use Rattle.abi_bits.specs.declared.saturating_add_value.SaturatingAddValue.TheVariants as count
 use Rattle.abi_det.specs.Frame.{Frame, IsLawful}
@@ -20,18 +20,15 @@ union_bound ok err a b = union_small ok err a b
 pub rounded_fits : (ok err : Frame) → IsLawful ok → IsLawful err → next_multiple_of (max ok.size err.size) (sum_align ok err) < 2 ^ 64
 rounded_fits ok err a b = omega (arith, union_small ok err a b)
 
-items_end : items End ≡ []
-items_end = search (rules, the_lemmas)
-
-head_end : head End ≡ None
-head_end = search (rules, the_lemmas)
+tree_end : tree End ≡ nothing
+tree_end = search (rules, the_lemmas)
 
 -- the parts of a sum's layout are those of its frame with the placement
 pub sum_made : (ok err : Frame) (p : Placement) (raw : RawLayout) → raw.size ≡ union_size ok err + p.front → raw.align ≡ sum_align ok err
     → raw.forbidden ≡ End → raw.unused ≡ p.exported → raw.niches ≡ count.B0 → raw.indirections ≡ (ok.indirections || err.indirections)
     → frame raw ≡ sum_frame ok err p
 sum_made ok err p raw size align forbidden unused niches indirections =
-    rw (size, align, forbidden, unused, niches, indirections, items_end, head_end) refl
+    rw (size, align, forbidden, unused, niches, indirections, tree_end) refl
 
 -- which is the written one under the rules of the placement
 pub sum_written : (rules : Rules) (ok err made : Frame) (p : Placement) → made ≡ sum_frame ok err p → p ≡ written_placement rules ok err → made ≡ written_sum rules ok err

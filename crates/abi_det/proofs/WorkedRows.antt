@@ -1,8 +1,8 @@
 -- The written placement of some sums, worked out by hand.
 use lib.Count.{count_trailing_zeros}
-use Rattle.std.proofs.Common.{◌≡◌, refl, ℕ, [], ◌∷◌, true, false, Some, None}
+use Rattle.std.proofs.Common.{◌≡◌, refl, ℕ, [], ◌∷◌, true, false}
 use Rattle.abi_bits.specs.Mask.{entries_below}
-use Rattle.abi_bits.specs.Forbidden.{pattern, range}
+use Rattle.abi_bits.specs.Forbidden.{nothing, alone, or, pattern, range}
 use Rattle.abi_bits.specs.declared.saturating_add_value.SaturatingAddValue.TheVariants as count
 use Rattle.abi_det.specs.Frame.{Frame}
 use Rattle.abi_det.specs.Offers.{One, Two, offer_at, first_offer}
@@ -10,11 +10,12 @@ use Rattle.abi_det.specs.Written.{written_placement, refusals_below}
 use Rattle.abi_det.specs.declared.placements.Kind.TheVariants as kind
 use Rattle.abi_det.specs.declared.determinant.Test.TheVariants as test
 
-plain : ℕ → ℕ → Frame
-plain size align = record { size = size; align = align; free = []; forbids = []; head = None; niches = count.B0; indirections = false }
+-- all bytes hold what they like, and none is free
+unfoldable pub plain : ℕ → ℕ → Frame
+plain size align = record { size = size; align = align; free = []; forbidden = nothing; niches = count.B0; indirections = false }
 
 bool_frame : Frame
-bool_frame = record { size = 1; align = 1; free = []; forbids = range 0 2 255 ∷ []; head = Some ((0, 2) ∷ []); niches = count.Saturator; indirections = false }
+bool_frame = record { size = 1; align = 1; free = []; forbidden = alone (range 0 2 255); niches = count.Saturator; indirections = false }
 
 option_bool : written_placement One bool_frame (plain 0 1) ≡ record {
   ok_shift = 0;
@@ -56,14 +57,14 @@ unfolding written_placement first_offer offer_at entries_below refusals_below pl
 byte_and_pair = refl
 
 -- a struct of u32 and bool, or of u32 and u8
-word_and_bool : Frame
-word_and_bool = record { size = 8; align = 4; free = (5, 255) ∷ (6, 255) ∷ (7, 255) ∷ []; forbids = range 4 2 255 ∷ []; head = None; niches = count.Saturator; indirections = false }
+unfoldable pub word_and_bool : Frame
+word_and_bool = record { size = 8; align = 4; free = (5, 255) ∷ (6, 255) ∷ (7, 255) ∷ []; forbidden = or nothing (alone (range 4 2 255)); niches = count.Saturator; indirections = false }
 
 word_and_byte : Frame
-word_and_byte = record { size = 8; align = 4; free = (5, 255) ∷ (6, 255) ∷ (7, 255) ∷ []; forbids = []; head = None; niches = count.Saturator; indirections = false }
+word_and_byte = record { size = 8; align = 4; free = (5, 255) ∷ (6, 255) ∷ (7, 255) ∷ []; forbidden = nothing; niches = count.Saturator; indirections = false }
 
 non_zero_byte : Frame
-non_zero_byte = record { size = 1; align = 1; free = []; forbids = pattern ((0, 0) ∷ []) ∷ []; head = Some ((0, 0) ∷ []); niches = count.B1; indirections = false }
+non_zero_byte = record { size = 1; align = 1; free = []; forbidden = alone (pattern ((0, 0) ∷ [])); niches = count.B1; indirections = false }
 
 larger_pattern_first : written_placement One word_and_bool (plain 1 1) ≡ record {
   ok_shift = 0;
@@ -91,7 +92,7 @@ bit_before_later_pattern : written_placement One word_and_byte non_zero_byte ≡
 unfolding written_placement first_offer offer_at entries_below refusals_below count_trailing_zeros word_and_byte non_zero_byte
 bit_before_later_pattern = refl
 
-second_place : written_placement One (record { size = 2; align = 1; free = (0, 254) ∷ []; forbids = []; head = None; niches = count.B0; indirections = false }) (plain 1 1) ≡ record {
+second_place : written_placement One (record { size = 2; align = 1; free = (0, 254) ∷ []; forbidden = nothing; niches = count.B0; indirections = false }) (plain 1 1) ≡ record {
   ok_shift = 0;
   err_shift = 1;
   place = 1;

@@ -2,7 +2,7 @@
 use Rattle.std.specs.Prelude.{◌≡◌, ℕ, true, ◌+◌, ◌*◌, List, map, sum, length, is_some}
 use Rattle.abi_bits.specs.Pairs.{Pair}
 use Rattle.abi_bits.specs.Forbidden.{offered}
-use Rattle.abi_det.specs.Frame.{Frame}
+use Rattle.abi_det.specs.Frame.{Frame, forbids, head}
 use Rattle.abi_det.specs.Roles.{smaller, union_size, is_place}
 use Rattle.abi_det.specs.Offers.{Rules, Niche}
 use Rattle.abi_det.specs.Search.{IsSpared}
@@ -21,8 +21,8 @@ abbrev pub side_of : Frame → Side
 side_of f = record {
   size = f.size;
   align = f.align;
-  offered = offered f.forbids;
-  headed = is_some f.head;
+  offered = offered (forbids f);
+  headed = is_some (head f);
   free = f.free;
 }
 

@@ -2,8 +2,7 @@
 use Rattle.std.specs.Prelude.{◌≡◌, ◌≢◌, ◌↔◌, ℕ, ◌+◌, ◌%◌, ◌<◌, ◌≤◌, List, [], true, false, Some}
 use Rattle.abi_bits.specs.Pairs.{Pair, max_size}
 use Rattle.abi_bits.specs.Mask.{IsMask}
-use Rattle.abi_bits.specs.Forbidden.{items, head, offered}
-use Rattle.abi_bits.specs.declared.forbidden_values.ForbiddenValues.{ForbiddenValues}
+use Rattle.abi_bits.specs.Forbidden.{Forbidden, items_of, head_of, offered}
 use Rattle.abi_det.specs.Frame.{Frame, IsLawful}
 use Rattle.abi_det.specs.Roles.{larger, smaller, is_place, lies_free, sum_align, union_size}
 use Rattle.abi_det.specs.Offers.{Rules, first_of}
@@ -46,7 +45,8 @@ PlaceLaw = (small : Frame) (size k : ℕ) → is_place small size k ≡ true →
 abbrev pub PlacementLaw : Type 0
 PlacementLaw =
     (rules : Rules) (ok err : Frame) → IsMask ok.free → IsMask err.free
-    → IsFirstBelow rules (larger ok err) (smaller ok err) (union_size ok err) 8 (taken (written_placement rules ok err))
+    → IsFirstBelow rules (larger ok err) (smaller ok err) (union_size ok err) 8
+    (taken (written_placement rules ok err))
 
 -- all existing places have a refusal that holds exactly where the written placement is a tag
 abbrev pub RefusedLaw : Type 0
@@ -71,8 +71,8 @@ BlockingLaw =
 -- the head of forbidden values is what their first item offers
 abbrev pub HeadLaw : Type 0
 HeadLaw =
-    (v : ForbiddenValues) (ps : List Pair) → head v ≡ Some ps → first_of (offered (items v))
-    ≡ Some ps
+    (t : Forbidden) (ps : List Pair)
+    → head_of t ≡ Some ps → first_of (offered (items_of t)) ≡ Some ps
 
 -- the union is the least multiple of the sum's alignment that both variants fit into
 abbrev pub RoundLaw : Type 0

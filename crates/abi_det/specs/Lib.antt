@@ -4,6 +4,7 @@ pub mod FrameOf
 pub mod Laws
 pub mod Niches
 pub mod Offers
+pub mod PlaceLaws
 pub mod SoundPlacement
 pub mod Refusals
 pub mod Roles

@@ -3,7 +3,7 @@ use Rattle.std.specs.Prelude.{◌≡◌, ◌≢◌, ◌⊎◌, ℕ, ◌*◌, ◌
 use Rattle.std.specs.Int.{bit_at}
 use Rattle.abi_bits.specs.Pairs.{Pair, moved_pairs}
 use Rattle.abi_bits.specs.Forbidden.{offered}
-use Rattle.abi_det.specs.Frame.{Frame}
+use Rattle.abi_det.specs.Frame.{Frame, forbids}
 use Rattle.abi_det.specs.Roles.{union_byte, lies_free, spare_byte, is_place}
 use Rattle.abi_det.specs.Offers.{Rules, Niche, leading_pattern}
 use Rattle.abi_det.specs.declared.placements.Placement.{Placement}
@@ -31,10 +31,13 @@ IsLeading (Some ps) n t = (n ≡ 0) × (t ≡ test.ValueIsErr ps)
 -- place k offers niche number n of the kind, which t tests
 abbrev pub IsNiche : Rules → Frame → Frame → ℕ → ℕ → Kind → ℕ → Test → Type 0
 IsNiche rules large small size k kind.SmallerPattern n t =
-    (small.size ≢ 0) × IsFreePattern (union_byte large 0 size) (map (moved_pairs (k * small.align)) (offered small.forbids)) n t
+    (small.size ≢ 0)
+    × IsFreePattern (union_byte large 0 size)
+    (map (moved_pairs (k * small.align)) (offered (forbids small))) n t
 IsNiche rules large small size k kind.LargerPattern n t =
     ((small.size ≡ 0) × IsLeading (leading_pattern rules large) n t)
-    ⊎ ((small.size ≢ 0) × IsFreePattern (union_byte small (k * small.align) size) (offered large.forbids) n t)
+    ⊎ ((small.size ≢ 0)
+    × IsFreePattern (union_byte small (k * small.align) size) (offered (forbids large)) n t)
 IsNiche rules large small size k kind.SharedBit n t =
     IsFreeBit (spare_byte large small (k * small.align) size) size n t
 IsNiche rules large small size k kind.Tag n t = ⊥

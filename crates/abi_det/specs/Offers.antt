@@ -3,7 +3,7 @@ use Rattle.std.specs.Prelude.{ℕ, zero, suc, ◌*◌, List, [], ◌∷◌, ◌=
 use Rattle.abi_bits.specs.Pairs.{Pair, moved_pairs}
 use Rattle.abi_bits.specs.Mask.{entries_below, least_bit}
 use Rattle.abi_bits.specs.Forbidden.{offered}
-use Rattle.abi_det.specs.Frame.{Frame}
+use Rattle.abi_det.specs.Frame.{Frame, forbids, head}
 use Rattle.abi_det.specs.Roles.{union_byte, lies_free, spare_byte, is_place}
 use Rattle.abi_det.specs.declared.placements.Kind.{Kind}
 use Rattle.abi_det.specs.declared.placements.Kind.TheVariants as kind
@@ -50,17 +50,17 @@ first_lying free by pss = find (lies_free free) (map (moved_pairs by) pss)
 -- the first pattern of the smaller variant, moved to its place, that lies in bytes that the larger leaves wholly free
 abbrev pub smaller_pattern : Frame → Frame → ℕ → ℕ → Option (List Pair)
 smaller_pattern large small size shift =
-    first_lying (union_byte large 0 size) shift (offered small.forbids)
+    first_lying (union_byte large 0 size) shift (offered (forbids small))
 
 -- the first pattern of the larger variant that lies in bytes that the smaller leaves wholly free
 abbrev pub larger_pattern : Frame → Frame → ℕ → ℕ → Option (List Pair)
 larger_pattern large small size shift =
-    find (lies_free (union_byte small shift size)) (offered large.forbids)
+    find (lies_free (union_byte small shift size)) (offered (forbids large))
 
 -- what an empty smaller variant takes of the larger's patterns: the head, or under rules two the first
 abbrev pub leading_pattern : Rules → Frame → Option (List Pair)
-leading_pattern version.One large = large.head
-leading_pattern version.Two large = first_of (offered large.forbids)
+leading_pattern version.One large = head large
+leading_pattern version.Two large = first_of (offered (forbids large))
 
 -- the least bit that both leave free
 abbrev pub shared_bit : Frame → Frame → ℕ → ℕ → Option Pair

@@ -1,5 +1,5 @@
 -- The two variants of a sum in one union: which is the larger, where the smaller may stand, and what each leaves free.
-use Rattle.std.specs.Prelude.{◌≡◌, ℕ, ◌+◌, ◌-◌, ◌*◌, ◌<◌, List, Bool, ◌&&◌, nat_le, nat_lt, ◌==◌, max, bit_and, if◌then◌else◌}
+use Rattle.std.specs.Prelude.{ℕ, ◌+◌, ◌-◌, ◌*◌, List, Bool, ◌&&◌, nat_le, nat_lt, ◌==◌, max, bit_and, if◌then◌else◌}
 use Rattle.std.specs.List.{list_all}
 use Rattle.std.specs.Int.{next_multiple_of}
 use Rattle.abi_bits.specs.Pairs.{Pair}
@@ -23,12 +23,14 @@ sum_align ok err = max ok.align err.align
 abbrev pub union_size : Frame → Frame → ℕ
 union_size ok err = next_multiple_of (max ok.size err.size) (sum_align ok err)
 
--- place k of the smaller variant stands at k times its alignment, where it ends within the union; of an empty one there is place 0 alone
+-- place k of the smaller variant stands at k times its alignment, where it ends within the union; of an empty one there
+-- is place 0 alone
 abbrev pub is_place : Frame → ℕ → ℕ → Bool
 is_place small size k =
     if small.size == 0 then k == 0 else (nat_lt k 8 && nat_le (k * small.align + small.size) size)
 
--- the bits of the byte at `at` that a variant at `shift` leaves free in a union of `size` bytes: its own free bits, and all bits of the bytes beside it
+-- the bits of the byte at `at` that a variant at `shift` leaves free in a union of `size` bytes: its own free bits, and
+-- all bits of the bytes beside it
 abbrev pub union_byte : Frame → ℕ → ℕ → ℕ → ℕ
 union_byte f shift size at =
     if nat_lt at size

@@ -1,10 +1,14 @@
 -- A variant as a search sees it: what a placement goes by, and nothing else.
-use Rattle.std.specs.Prelude.{ℕ, List, [], Bool, false, None, map, if◌then◌else◌}
+use Rattle.std.specs.Prelude.{ℕ, List, [], Bool, false, map, if◌then◌else◌}
 use Rattle.abi_bits.specs.Pairs.{Pair}
-use Rattle.abi_bits.specs.Forbidden.{pattern}
+use Rattle.abi_bits.specs.Forbidden.{Forbidden, nothing, or, pattern, tree_of}
 use Rattle.abi_bits.specs.declared.saturating_add_value.SaturatingAddValue.TheVariants as count
 use Rattle.abi_det.specs.Frame.{Frame}
-use Rattle.abi_det.specs.Offers.{first_of}
+
+-- values that forbid these patterns; where `headed`, the first of them leads, else none does
+abbrev pub tree_of_side : List (List Pair) → Bool → Forbidden
+tree_of_side pss headed =
+    if headed then tree_of (map pattern pss) else or nothing (tree_of (map pattern pss))
 
 -- the frame with these parts, which forbids the patterns; where `headed`, the first of them is its head
 abbrev pub seen : ℕ → ℕ → List Pair → List (List Pair) → Bool → Frame
@@ -12,8 +16,7 @@ seen size align free pss headed = record {
   size = size;
   align = align;
   free = free;
-  forbids = map pattern pss;
-  head = if headed then first_of pss else None;
+  forbidden = tree_of_side pss headed;
   niches = count.B0;
   indirections = false;
 }

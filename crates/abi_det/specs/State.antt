@@ -51,7 +51,8 @@ put_bits offset mask sign xs =
     if sign then slice_set xs offset (bit_or (slice_index xs offset) mask)
     else slice_set xs offset (bit_and (slice_index xs offset) (bit_not w8 mask))
 
--- the bytes after the test's truth was imposed on them: it was made to hold, or its one bit was cleared; a pattern is only ever written
+-- the bytes after the test's truth was imposed on them: it was made to hold, or its one bit was cleared; a pattern is
+-- only ever written
 abbrev pub imposed : Test → Bool → List ℕ → List ℕ
 imposed test.BitDeterminant sign xs = put_bits 0 1 sign xs
 imposed (test.ValueIsErr ps) sign xs = if sign then put_pairs ps xs else xs

@@ -3,10 +3,9 @@ use Rattle.std.specs.Prelude.{◌≡◌, ℕ, zero, suc, ◌+◌, ◌*◌, List,
 use Rattle.std.specs.List.{list_any}
 use Rattle.abi_bits.specs.Pairs.{Pair, moved_pairs}
 use Rattle.abi_bits.specs.Mask.{entries_below}
-use Rattle.abi_bits.specs.Forbidden.{Item, items, head, offered}
-use Rattle.abi_bits.specs.declared.forbidden_values.ForbiddenValues.{ForbiddenValues}
+use Rattle.abi_bits.specs.Forbidden.{Item, Forbidden, nothing, items_of, head_of, offered}
 use Rattle.abi_bits.specs.declared.saturating_add_value.SaturatingAddValue.TheVariants as count
-use Rattle.abi_det.specs.Frame.{Frame}
+use Rattle.abi_det.specs.Frame.{Frame, forbids}
 use Rattle.abi_det.specs.Roles.{ok_is_larger, larger, smaller, sum_align, union_size, is_place, union_byte, spare_byte}
 use Rattle.abi_det.specs.Offers.{Rules, Niche, first_offer, leading_pattern, shared_bit}
 use Rattle.abi_det.specs.declared.placements.Kind.{Kind}
@@ -33,9 +32,10 @@ refusal_at large small size k =
     then record { place = k; smaller = []; larger = [] }
     else record {
       place = k;
-      smaller = blocking_bytes (union_byte large 0 size) (k * small.align) (offered small.forbids);
+      smaller =
+          blocking_bytes (union_byte large 0 size) (k * small.align) (offered (forbids small));
       larger =
-          map (first_blocking (union_byte small (k * small.align) size)) (offered large.forbids);
+          map (first_blocking (union_byte small (k * small.align) size)) (offered (forbids large));
     }
 
 -- one refusal for each existing place below `places`, in rising order
@@ -74,13 +74,13 @@ are_named leading larger smaller large small size r =
     && are_blocking (union_byte small (r.place * small.align) size) (offered larger) r.larger
 
 -- the same of variants that forbid these values
-abbrev pub names_each : ForbiddenValues → ForbiddenValues → Frame → Frame → ℕ → Refusal → Bool
-names_each larger smaller = are_named (head larger) (items larger) (items smaller)
+abbrev pub names_each : Forbidden → Forbidden → Frame → Frame → ℕ → Refusal → Bool
+names_each larger smaller = are_named (head_of larger) (items_of larger) (items_of smaller)
 
 abbrev pub refuses : Rules → Frame → Frame → ℕ → Refusal → Bool
 refuses rules large small size r =
     is_place small size r.place
-    && are_named (leading_pattern rules large) large.forbids small.forbids large small size r
+    && are_named (leading_pattern rules large) (forbids large) (forbids small) large small size r
     && is_none (shared_bit large small size (r.place * small.align))
 
 -- the refusal holds for the sum of the two
@@ -160,8 +160,7 @@ sum_frame ok err p = record {
   size = union_size ok err + p.front;
   align = sum_align ok err;
   free = p.exported;
-  forbids = [];
-  head = None;
+  forbidden = nothing;
   niches = count.B0;
   indirections = ok.indirections || err.indirections;
 }

@@ -1,5 +1,5 @@
 ghost use Rattle.std.specs.Prelude.{◌≡◌, ◌<◌, ◌↔◌, IsTrue, IfOk, not, length, slice_index};
-ghost use Rattle.abi_bits.specs.Pairs.{are_below, is_matched};
+ghost use Rattle.abi_bits.specs.Pairs.{are_below};
 ghost use Rattle.abi_det.specs.State.{put_pairs, put_bits};
 
 use abi_bits::Pattern;
@@ -94,7 +94,7 @@ impl Test {
     {
         match self {
             Test::BitDeterminant => sum[0] & 1 == 1,
-            Test::ValueIsErr(pattern) => is_matched(pattern.pairs(), sum),
+            Test::ValueIsErr(pattern) => pattern.is_matched(sum),
             Test::BitIsErr { offset, mask } => sum[*offset as usize] & *mask != 0,
         }
     }
@@ -131,19 +131,6 @@ impl Test {
             }),
         }
     }
-}
-
-/// Whether each named byte has its value.
-fn is_matched(pairs: &[(u64, u8)], bytes: &[u8]) -> bool
-    requires { IsTrue (are_below (length bytes.now) pairs.now) }
-    ensures { result ≡ is_matched pairs.now (slice_index bytes.now) }
-{
-    for (offset, byte) in pairs {
-        if bytes[*offset as usize] != *byte {
-            return false;
-        }
-    }
-    true
 }
 
 /// Writes each pair's byte at its offset.

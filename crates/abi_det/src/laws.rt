@@ -16,6 +16,7 @@ ghost use Rattle.abi_det.specs.Laws.{
   BlockingLaw,
   HeadLaw,
 };
+ghost use Rattle.abi_det.specs.PlaceLaws.{PositionsLaw, TagMeaningLaw, TagPlaceLaw, NicheMeaningLaw};
 
 /// The union of the variants of a sum is no larger than a layout may be.
 #[tactic(auto, using(crate::proofs::Sizes::union_small))]
@@ -41,11 +42,37 @@ pub fn places_are_eight()
     ensures { PlaceLaw }
 {}
 
+/// Each position at which the smaller variant fits into the union, of the first eight that its alignment allows,
+/// is a place that the search knows, and it knows no other.
+pub fn every_place_that_fits_exists()
+    ensures { PositionsLaw }
+{}
+
 /// The written placement takes the least existing place that offers a niche, there the first kind, and of that
 /// kind the first pattern or the least bit; where no existing place offers one, a tag.
 #[tactic(auto, using(crate::proofs::Chosen::placement_first))]
 pub fn placement_takes_the_first_niche()
     ensures { PlacementLaw }
+{}
+
+/// With a tag, a 1 in the lowest bit of the first byte means the smaller variant, which is `Err` where the sizes
+/// are equal, and a 0 the larger.
+#[tactic(auto, using(crate::proofs::PlaceLaws::tag_meaning))]
+pub fn a_tag_of_one_means_the_smaller_variant()
+    ensures { TagMeaningLaw }
+{}
+
+/// A tag takes the first bit of new bytes in front of both variants, and leaves free the others of these bits.
+#[tactic(auto, using(crate::proofs::PlaceLaws::tag_place))]
+pub fn a_tag_takes_the_first_bit_in_front()
+    ensures { TagPlaceLaw }
+{}
+
+/// The value of a niche means the one variant, and every other value the other: a pattern that the smaller variant
+/// never has means the larger; one that the larger never has, or a shared bit that is 1, the smaller.
+#[tactic(auto, using(crate::proofs::PlaceLaws::niche_meaning))]
+pub fn a_niche_means_one_variant()
+    ensures { NicheMeaningLaw }
 {}
 
 /// Every placement is sound: each variant stands inside the sum, the test takes only bits

@@ -16,9 +16,13 @@ pub struct Layout {
 }
 
 impl Model for Layout {
+    ghost use Rattle.abi_bits.specs.ForbiddenCode.{forbidden_code};
     ghost use Rattle.abi_det.specs.Frame.{Frame, IsLawful};
+    ghost use Rattle.std.specs.Coded.{codes};
 
     ghost Value = { Frame };
+
+    ghost coded = { Prim.hlevel (codes, forbidden_code) };
 
     ghost use Rattle.abi_det.specs.FrameOf.{frame};
 
@@ -28,10 +32,10 @@ impl Model for Layout {
 }
 
 impl Layout {
-    ghost use Rattle.abi_det.specs.Frame.{IsLawful};
+    ghost use Rattle.abi_det.specs.Frame.{IsLawful, forbids};
     ghost use Rattle.abi_det.specs.FrameOf.{frame};
     ghost use Rattle.abi_bits.specs.Mask.{IsMask};
-    ghost use Rattle.abi_bits.specs.Forbidden.{items, head, offered, is_match, AreSound};
+    ghost use Rattle.abi_bits.specs.Forbidden.{tree, items, offered, is_match, AreSound};
     ghost use Rattle.abi_det.specs.SoundPlacement.{IsWellFormed};
 
     /// The layout of these parts; `None` exactly where they break the rule of lawful layouts.
@@ -93,8 +97,7 @@ impl Layout {
 
     /// Values that the bytes never have.
     pub fn forbidden(&self) -> &ForbiddenValues
-        ensures items { items result.now ≡ self.now.forbids }
-        ensures head { head result.now ≡ self.now.head }
+        ensures same { tree result.now ≡ self.now.forbidden }
         ensures sound { AreSound (items result.now) }
     {
         &self.raw.forbidden
@@ -102,7 +105,7 @@ impl Layout {
 
     /// The patterns that the forbidden values offer, in order.
     pub(crate) fn patterns(&self, alloc: Global) -> Result<Patterns, OutOfMemory>
-        ensures same { IfOk result (λ patterns. patterns ≡ offered self.now.forbids) }
+        ensures same { IfOk result (λ patterns. patterns ≡ offered (forbids self.now)) }
         ensures well_formed { IfOk result (λ _. IsWellFormed self.now) }
     {
         // Does nothing: its clause on the free bits is wanted.
@@ -140,7 +143,7 @@ impl Layout {
     /// Whether bytes, at least as many as the size, have a value that is forbidden.
     pub fn is_invalid(&self, bytes: &[u8]) -> bool
         requires { self.now.size ≤ length bytes.now }
-        ensures { result ≡ list_any (is_match (slice_index bytes.now)) self.now.forbids }
+        ensures { result ≡ list_any (is_match (slice_index bytes.now)) (forbids self.now) }
     {
         self.raw.forbidden.is_invalid(bytes)
     }

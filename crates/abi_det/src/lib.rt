@@ -16,8 +16,6 @@ mod rules;
 mod side;
 mod spare;
 mod sum;
-#[cfg(test)]
-mod tests;
 mod variant;
 
 pub use counted::{Found, search, search_by};

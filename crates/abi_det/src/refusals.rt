@@ -1,5 +1,5 @@
 ghost use Rattle.std.specs.Prelude.{◌≡◌, IsTrue, IfOk, is_none};
-ghost use Rattle.abi_bits.specs.Forbidden.{head};
+ghost use Rattle.abi_bits.specs.Forbidden.{tree, head};
 ghost use Rattle.abi_det.specs.Roles.{is_place};
 ghost use Rattle.abi_det.specs.Offers.{One, shared_bit};
 ghost use Rattle.abi_det.specs.Written.{refusal_at, refusals_below, refusal_holds, names_each};
@@ -81,7 +81,7 @@ impl Roles<'_> {
     #[tactic(auto, using(crate::proofs::Blocking::none_named, crate::proofs::Moving::all_moved_by_none))]
     fn blocks_patterns(&self, large: &ForbiddenValues, small: &ForbiddenValues, r: &Refusal) -> bool
         requires { IsTrue (is_place self.now.small self.now.size r.now.place) }
-        ensures { result ≡ of_roles (names_each large.now small.now) self.now r.now }
+        ensures { result ≡ of_roles (names_each (tree large.now) (tree small.now)) self.now r.now }
     {
         if self.small.size() == 0 {
             r.smaller.as_slice().is_empty() && r.larger.as_slice().is_empty() && has_no_head(large)

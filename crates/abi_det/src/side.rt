@@ -1,6 +1,5 @@
 ghost use Rattle.std.specs.Prelude.{◌≡◌, ◌+◌, ◌≤◌, IfOk};
 ghost use Rattle.abi_det.specs.Frame.{IsLawful};
-ghost use Rattle.abi_det.specs.SoundPlacement.{IsWellFormed};
 
 use crate::layout::Layout;
 use crate::refusals::has_no_head;
@@ -33,7 +32,6 @@ impl Side {
     pub fn of(alloc: Global, layout: &Layout) -> Result<Side, OutOfMemory>
         ensures same { IfOk result (λ side. side ≡ side_of layout.now) }
         ensures lawful { IfOk result (λ side. IsLawful (frame_of side)) }
-        ensures well_formed { IfOk result (λ _. IsWellFormed layout.now) }
     {
         let offered = layout.patterns(alloc)?;
         let free = ByteMask::of(alloc, layout.unused())?;

@@ -62,8 +62,8 @@ impl<'a> Roles<'a> {
     }
 
     /// The first byte of the union, at the offset `from` or past it, in which both variants leave bits free,
-    /// and these bits. An empty smaller variant leaves all to the larger's own. All answers in turn take as many
-    /// steps as both masks have entries and there are answers.
+    /// and these bits. An empty smaller variant leaves all to the larger's own. All answers in turn pass
+    /// each byte of both masks once.
     #[tactic(auto, using(crate::proofs::Next::next_empty))]
     pub(crate) fn next_spare(
         &self,
@@ -82,8 +82,8 @@ impl<'a> Roles<'a> {
         }
     }
 
-    /// The same where the smaller variant is not empty. Each turn but the last two passes an entry of the
-    /// larger's mask.
+    /// The same where the smaller variant is not empty. Each turn but the last two passes a byte in which the
+    /// larger leaves bits free.
     fn next_shared(&self, shift: u64, own: &mut OwnBits<'_>, from: u64) -> Option<(u64, u8)>
         requires some { 0 < self.now.small.size }
         requires left { AreLeftOf self.now shift own.old from }

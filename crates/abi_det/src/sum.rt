@@ -54,7 +54,7 @@ pub fn placement_by(
     }
 }
 
-/// What is found of the two. Their free bits lie open, so it costs by their free bytes and not by their sizes.
+/// What is found of the two. Their free bits lie open, so no byte outside them is looked at.
 fn found_by(alloc: Global, rules: Rules, ok: &Layout, err: &Layout) -> Result<Found, OutOfMemory>
     ensures same { IfOk result (λ f. f ≡ found_of (written_placement rules ok.now err.now)) }
     ensures well_formed { IfOk result (λ _. IsWellFormed ok.now × IsWellFormed err.now) }

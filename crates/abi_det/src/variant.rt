@@ -1,7 +1,7 @@
 ghost use Rattle.std.specs.Prelude.{◌≡◌, ◌≤◌, ◌<◌, IfOk, IsTrue};
 ghost use Rattle.abi_bits.specs.Mask.{IsMask};
 ghost use Rattle.abi_bits.specs.Forbidden.{offered};
-ghost use Rattle.abi_det.specs.Frame.{IsLawful};
+ghost use Rattle.abi_det.specs.Frame.{IsLawful, forbids};
 ghost use Rattle.abi_det.specs.Offers.{first_of, leading_pattern};
 ghost use Rattle.abi_det.specs.Sides.{seen, bare};
 ghost use Rattle.abi_det.specs.Counted.{frame_of, side_of};
@@ -25,10 +25,14 @@ pub(crate) struct Variant<'a> {
 }
 
 impl<'a> Model for Variant<'a> {
+    ghost use Rattle.abi_bits.specs.ForbiddenCode.{forbidden_code};
     ghost use Rattle.abi_det.specs.Frame.{Frame, IsLawful};
     ghost use Rattle.abi_det.specs.Sides.{seen};
+    ghost use Rattle.std.specs.Coded.{codes};
 
     ghost Value = { Frame };
+
+    ghost coded = { Prim.hlevel (codes, forbidden_code) };
 
     ghost view = { λ v. seen v.size v.align v.free.now v.offered.now v.headed };
 
@@ -53,7 +57,7 @@ impl<'a> Variant<'a> {
     /// The variant with that layout, which offers these patterns.
     #[tactic(auto, using(crate::proofs::Seen::side_lawful))]
     pub(crate) fn of(layout: &'a Layout, patterns: &'a [Pattern]) -> Variant<'a>
-        requires { patterns.now ≡ offered layout.now.forbids }
+        requires { patterns.now ≡ offered (forbids layout.now) }
         ensures { result ≡ frame_of (side_of layout.now) }
     {
         Variant {
@@ -117,13 +121,13 @@ impl<'a> Variant<'a> {
     /// The offered patterns, in order.
     #[tactic(auto, using(crate::proofs::Sides::offered_seen))]
     pub(crate) fn patterns(&self) -> &'a [Pattern]
-        ensures { result.now ≡ offered self.now.forbids }
+        ensures { result.now ≡ offered (forbids self.now) }
     {
         self.offered
     }
 
     /// What an empty variant beside this one takes of its patterns.
-    #[tactic(auto, using(crate::proofs::Sides::leading_two))]
+    #[tactic(auto, using(crate::proofs::Sides::leading_one, crate::proofs::Sides::leading_two))]
     pub(crate) fn leading_pattern(
         &self,
         alloc: Global,

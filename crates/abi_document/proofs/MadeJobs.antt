@@ -1,5 +1,5 @@
 -- A made job has no fault: its fields are few, each of them is well-formed and small, and each value fits.
-use Rattle.std.proofs.Common.{◌≡◌, ℕ, zero, suc, ◌+◌, ◌-◌, ◌*◌, ◌/◌, ◌%◌, ◌<◌, ◌≤◌, ◌^◌, nat_le, nat_lt, Bool, true, false, not, ◌&&◌, ◌==◌, cond, List, [], ◌∷◌, map, max, take, Option, None, IsTrue, refl, sym, ap, subst, ◌∙◌, arith, lit≤}
+use Rattle.std.proofs.Common.{◌≡◌, ℕ, zero, suc, ◌+◌, ◌-◌, ◌*◌, ◌/◌, ◌%◌, ◌<◌, ◌≤◌, ◌^◌, nat_le, nat_lt, Bool, true, false, not, ◌&&◌, ◌==◌, cond, List, [], ◌∷◌, map, max, take, Option, None, refl, sym, subst, arith, lit≤}
 use Rattle.std.specs.Int.{next_multiple_of}
 use Rattle.std.specs.List.{range_with_len}
 use Rattle.std.proofs.lemmas.Bool.{and_parts, leb-true, le-ltb, lt-ltb, ne_eqb}
@@ -21,12 +21,11 @@ use Rattle.abi_layout.specs.Trees.{Tree, Branches, Named, prim, array, option, r
 use Rattle.abi_layout.specs.declared.desc_error.DescError.{DescError}
 use Rattle.abi_layout.specs.declared.prim.Primitive.TheVariants as primitive
 use Rattle.abi_pack.specs.Jobs.{job_fault}
-use Rattle.abi_pack.specs.Plain as plain
 use Rattle.abi_pack.specs.Plain.{Plain}
 use Rattle.abi_pack.specs.Values.{fits, fits_in}
 use Rattle.abi_pack.specs.View.{plains_of}
 use Rattle.abi_document.specs.Laws.{MadeLaw}
-use Rattle.abi_document.specs.Made.{most_fields, pair_type, is_count, type_in_turn, field_type, number, ok, err, truth_of, result_of, pair_of, bytes_of, value_in_turn, field_value, made_field, made_fields, made_values, made_desc, made_value, le64}
+use Rattle.abi_document.specs.Made.{most_fields, pair_type, type_in_turn, field_type, number, ok, err, truth_of, result_of, pair_of, bytes_of, value_in_turn, field_value, made_field, made_fields, made_desc, le64}
 
 none : (x y : Option DescError) → x ≡ None → y ≡ None → or_else x y ≡ None
 none x y e f = rw (e, f) refl

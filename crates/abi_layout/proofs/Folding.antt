@@ -7,26 +7,26 @@ use Rattle.std.specs.Int.{next_multiple_of}
 use Rattle.std.specs.List.{list_all}
 use Rattle.abi_bits.specs.Pairs.{Pair, moved_pairs, are_below}
 use Rattle.abi_bits.specs.Mask.{mask_at, entries_below}
-use Rattle.abi_bits.specs.Forbidden.{Item, pattern, range, moved_item}
+use Rattle.abi_bits.specs.Forbidden.{Item, pattern, range, moved_item, Forbidden, nothing, alone, or, items_of, moved_tree}
 use Rattle.abi_bits.specs.declared.saturating_add_value.SaturatingAddValue.{SaturatingAddValue}
 use Rattle.abi_bits.specs.declared.saturating_add_value.SaturatingAddValue.TheVariants as count
+use Rattle.abi_bits.proofs.Trees.{items_moved}
 use Rattle.abi_bits.proofs.Counts.{associative}
 use Rattle.abi_bits.proofs.Masks.{or_zero, zero_or, or_assoc}
 use Rattle.abi_bits.proofs.Entries.{entries_lie_below, zero_past}
-use Rattle.abi_det.specs.Frame.{Frame, is_lawful, IsLawful}
+use Rattle.abi_det.specs.Frame.{Frame, is_lawful, IsLawful, forbids}
 use Rattle.abi_det.proofs.Lawful.{parts as lawful_parts}
 use Rattle.abi_det.proofs.Sizes.{alignment_positive, rounded}
 use Rattle.abi_bits.specs.Count.{added}
 use Rattle.abi_layout.specs.Builders.{start_after, whole_between, byte_from, counted, pair, rounded_to}
-use Rattle.abi_layout.specs.Structs.{positions, end_of, fields_align, requested_align, total_size, total_count, is_indirect, fields_byte, fields_items, struct_frame}
+use Rattle.abi_layout.specs.Structs.{positions, end_of, fields_align, requested_align, total_size, total_count, is_indirect, fields_byte, joined_fields, fields_forbidden, struct_frame, Positioned}
 use Rattle.abi_layout.specs.Folds.{folded, AreLawful}
 use Rattle.abi_layout.specs.Laws.{FoldLaw}
 use Rattle.abi_layout.proofs.Bytes.{whole_past, whole_none, byte_past, byte_inside, told, entries_equal}
 
 -- a frame is its parts
-pub same_frame : (f g : Frame) → f.size ≡ g.size → f.align ≡ g.align → f.free ≡ g.free → f.forbids ≡ g.forbids → f.head ≡ g.head
-    → f.niches ≡ g.niches → f.indirections ≡ g.indirections → f ≡ g
-same_frame f g a b c d e h k = λ i. record { size = a i; align = b i; free = c i; forbids = d i; head = e i; niches = h i; indirections = k i }
+pub same_frame : (f g : Frame) → f.size ≡ g.size → f.align ≡ g.align → f.free ≡ g.free → f.forbidden ≡ g.forbidden → f.niches ≡ g.niches → f.indirections ≡ g.indirections → f ≡ g
+same_frame f g a b c d h k = λ i. record { size = a i; align = b i; free = c i; forbidden = d i; niches = h i; indirections = k i }
 
 -- what the fold keeps: bytes to be aligned, and free bits below the size
 pub record Keeps (f : Frame) : Type 0 where
@@ -105,17 +105,10 @@ folded_align a (f ∷ fs) pos =
     let e : (folded (pair a f) fs).align ≡ max (max a.align f.align) (fields_align fs) = folded_align (pair a f) fs (omega (arith, pos)) in
     omega (arith, e)
 
-folded_forbids : (a : Frame) (fs : List Frame) → (folded a fs).forbids ≡ a.forbids ++ fields_items (positions a.size fs)
+folded_forbidden : (a : Frame) (fs : List Frame) → (folded a fs).forbidden ≡ joined_fields a.forbidden (positions a.size fs)
 unfolding pair
-folded_forbids a [] = sym (append-nil a.forbids)
-folded_forbids a (f ∷ fs) =
-    folded_forbids (pair a f) fs
-    ∙ append_assoc a.forbids (map (moved_item (start_after a.size f)) f.forbids) (fields_items (positions (start_after a.size f + f.size) fs))
-
-folded_head : (a : Frame) (fs : List Frame) → (folded a fs).head ≡ a.head
-unfolding pair
-folded_head a [] = refl
-folded_head a (f ∷ fs) = folded_head (pair a f) fs
+folded_forbidden a [] = refl
+folded_forbidden a (f ∷ fs) = folded_forbidden (pair a f) fs
 
 or_assoc_bool : (a b c : Bool) → ((a || b) || c) ≡ (a || (b || c))
 or_assoc_bool true b c = refl
@@ -173,20 +166,42 @@ unmoved : (it : Item) → moved_item 0 it ≡ it
 unmoved (pattern ps) = ap pattern (unmoved_pairs ps)
 unmoved (range at least greatest) = let e : at + 0 ≡ at = omega arith in rw e refl
 
-unmoved_items : (its : List Item) → map (moved_item 0) its ≡ its
-unmoved_items [] = refl
-unmoved_items (it ∷ its) = rw (unmoved it, unmoved_items its) refl
+unmoved_tree : (t : Forbidden) → moved_tree 0 t ≡ t
+unmoved_tree nothing = refl
+unmoved_tree (alone it) = ap alone (unmoved it)
+unmoved_tree (or left right) = rw (unmoved_tree left, unmoved_tree right) refl
+
+-- the forbidden items of the fields at their places
+abbrev pub fields_items : List Positioned → List Item
+fields_items [] = []
+fields_items (p ∷ ps) = map (moved_item p.start) (forbids p.held) ++ fields_items ps
+
+items_joined : (so_far : Forbidden) (ps : List Positioned) → items_of (joined_fields so_far ps) ≡ items_of so_far ++ fields_items ps
+items_joined so_far [] = sym (append-nil (items_of so_far))
+items_joined so_far (p ∷ ps) =
+    items_joined (or so_far (moved_tree p.start p.held.forbidden)) ps
+    ∙ ap (λ its. (items_of so_far ++ its) ++ fields_items ps) (items_moved p.start p.held.forbidden)
+    ∙ append_assoc (items_of so_far) (map (moved_item p.start) (forbids p.held)) (fields_items ps)
+
+pub items_in_fields : (ps : List Positioned) → items_of (fields_forbidden ps) ≡ fields_items ps
+items_in_fields [] = refl
+items_in_fields (p ∷ ps) =
+    items_joined (moved_tree p.start p.held.forbidden) ps ∙ ap (λ its. its ++ fields_items ps) (items_moved p.start p.held.forbidden)
+
+pub struct_forbids : (fs : List Frame) (align : Option ℕ) → forbids (struct_frame fs align) ≡ fields_items (positions 0 fs)
+unfolding struct_frame
+struct_forbids fs align = items_in_fields (positions 0 fs)
 
 pub first_end : (f : Frame) (fs : List Frame) → 0 < f.align → end_of 0 (f ∷ fs) ≡ end_of f.size fs
 first_end f fs pos = let s : start_after 0 f + f.size ≡ f.size = omega (arith, first_start f pos) in ap (λ e. end_of e fs) s
 
-first_items : (f : Frame) (fs : List Frame) → 0 < f.align → fields_items (positions 0 (f ∷ fs)) ≡ f.forbids ++ fields_items (positions f.size fs)
-first_items f fs pos =
+first_forbidden : (f : Frame) (fs : List Frame) → 0 < f.align → fields_forbidden (positions 0 (f ∷ fs)) ≡ joined_fields f.forbidden (positions f.size fs)
+first_forbidden f fs pos =
     let z : start_after 0 f ≡ 0 = first_start f pos in
     let s : start_after 0 f + f.size ≡ f.size = omega (arith, z) in
-    ap (λ e. map (moved_item e) f.forbids ++ fields_items (positions (start_after 0 f + f.size) fs)) z
-    ∙ ap (λ e. map (moved_item 0) f.forbids ++ fields_items (positions e fs)) s
-    ∙ ap (λ its. its ++ fields_items (positions f.size fs)) (unmoved_items f.forbids)
+    ap (λ e. joined_fields (moved_tree e f.forbidden) (positions (start_after 0 f + f.size) fs)) z
+    ∙ ap (λ e. joined_fields (moved_tree 0 f.forbidden) (positions e fs)) s
+    ∙ ap (λ t. joined_fields t (positions f.size fs)) (unmoved_tree f.forbidden)
 
 first_byte : (f : Frame) (fs : List Frame) (at : ℕ) → 0 < f.align
     → fields_byte (positions 0 (f ∷ fs)) at ≡ bit_or (mask_at f.free at) (fields_byte (positions f.size fs) at)
@@ -233,8 +248,7 @@ closing f fs whole align k l ours =
     (entries_equal _ _ (next_multiple_of (folded f fs).size whole) (next_multiple_of (end_of 0 (f ∷ fs)) (requested_align (fields_align (f ∷ fs)) align)) size
     (λ at. let b : mask_at (folded f fs).free at ≡ fields_byte (positions 0 (f ∷ fs)) at = folded_byte f fs at k l ∙ sym (first_byte f fs at k.positive) in
     rw (b, end, mine) refl))
-    (folded_forbids f fs ∙ sym (first_items f fs k.positive))
-    (folded_head f fs)
+    (folded_forbidden f fs ∙ sym (first_forbidden f fs k.positive))
     (ap (λ z. counted (eqb wide z) (folded f fs).niches) (folded_size f fs)
     ∙ ap (counted (eqb wide (end_of f.size fs))) (folded_niches f fs)
     ∙ closed_count wide (end_of f.size fs) (f.size + total_size fs) (added f.niches (total_count fs)) (omega (arith, at_least (folded f fs).size whole, folded_size f fs)) (end_least f.size fs)

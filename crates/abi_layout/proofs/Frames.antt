@@ -4,10 +4,11 @@ use Rattle.std.proofs.lemmas.Bool.{and_parts, and_from, eq-eqb, le-leb}
 use Rattle.std.proofs.Math.Nat.{mod_self}
 use Rattle.abi_num.specs.Alignment.{is_alignment, IsAlignment}
 use Rattle.abi_bits.specs.declared.saturating_add_value.SaturatingAddValue.{SaturatingAddValue}
+use Rattle.abi_bits.specs.Forbidden.{tree_of}
 use Rattle.abi_det.specs.Frame.{Frame, IsLawful}
 use Rattle.abi_layout.specs.Builders.{bare}
 use Rattle.abi_layout.specs.Leaves.{is_sized}
-use Rattle.abi_layout.specs.Prims.{scalar_size, scalar_items, scalar_head, row_frame}
+use Rattle.abi_layout.specs.Prims.{scalar_size, scalar_items, row_frame}
 use Rattle.abi_layout.specs.declared.primitives.Row.{Row}
 use Rattle.abi_det.proofs.Sizes.{alignment_parts}
 use Rattle.abi_layout.proofs.Folding.{same_frame}
@@ -16,10 +17,10 @@ use Rattle.abi_layout.proofs.Folding.{same_frame}
 pub lawful_made : (made f : Frame) → made ≡ f → IsLawful f → IsLawful made
 lawful_made made f same lawful = subst IsLawful (sym same) lawful
 
-pub row_made : (r : Row) (made : Frame) → made.size ≡ scalar_size r.scalar → made.align ≡ r.align → made.free ≡ [] → made.forbids ≡ scalar_items r.scalar
-    → made.head ≡ scalar_head r.scalar → made.niches ≡ r.niches → made.indirections ≡ r.indirections → made ≡ row_frame r
+pub row_made : (r : Row) (made : Frame) → made.size ≡ scalar_size r.scalar → made.align ≡ r.align → made.free ≡ [] → made.forbidden ≡ tree_of (scalar_items r.scalar)
+    → made.niches ≡ r.niches → made.indirections ≡ r.indirections → made ≡ row_frame r
 unfolding row_frame
-row_made r made a b c d e f g = same_frame made (row_frame r) a b c d e f g
+row_made r made a b c d e f = same_frame made (row_frame r) a b c d e f
 
 -- bytes of which nothing is known but their number
 pub bare_lawful : (size align : ℕ) (niches : SaturatingAddValue) (indirections : Bool) → is_sized size align ≡ true → size ≤ 1048576

@@ -1,21 +1,21 @@
 -- The rules of a leaf's form, as they are tested, and what they tell of its layout.
-use Rattle.std.proofs.Common.{◌≡◌, ℕ, ◌+◌, ◌%◌, ◌<◌, ◌≤◌, Bool, true, false, not, ◌&&◌, List, [], ◌∷◌, Some, None, length, eqb, leb, ltb, map, refl, sym, ◌∙◌, subst, arith, rules}
+use Rattle.std.proofs.Common.{◌≡◌, ℕ, ◌+◌, ◌%◌, ◌<◌, ◌≤◌, Bool, true, false, not, ◌&&◌, List, [], ◌∷◌, Some, length, eqb, leb, ltb, map, refl, sym, ◌∙◌, subst, arith, rules}
 use Rattle.std.specs.List.{list_all}
 use Rattle.std.proofs.lemmas.Bool.{and_parts, and_from, and_right, le-leb, ltb-true, lt-ltb, eqb-true}
 use Rattle.abi_num.specs.Alignment.{is_alignment}
 use Rattle.abi_bits.specs.Pairs.{Pair, are_bytes, are_rising, are_below, is_empty, is_pattern}
 use Rattle.abi_bits.specs.Mask as masks
-use Rattle.abi_bits.specs.Forbidden.{Item, pattern, range, items, head, offer, offered, is_solid_byte, is_solid_item}
+use Rattle.abi_bits.specs.Forbidden.{Item, pattern, range, nothing, tree, tree_of, offer, offered, is_solid_byte, is_solid_item}
 use Rattle.abi_bits.specs.declared.forbidden_values.ForbiddenValues.{the_lemmas}
 use Rattle.abi_bits.specs.declared.forbidden_values.ForbiddenValues.TheVariants as forbidden
 use Rattle.abi_bits.specs.Mask.{IsMask}
 use Rattle.abi_det.specs.Frame.{Frame, IsLawful}
-use Rattle.abi_det.specs.Offers.{first_of}
+use Rattle.abi_bits.proofs.Trees.{items_made}
 use Rattle.abi_det.specs.SoundPlacement.{IsWellFormed}
 use Rattle.abi_det.proofs.Sizes.{lawful_from}
 use Rattle.abi_layout.specs.Faults.{leaf_fault}
 use Rattle.abi_layout.specs.declared.desc_error.DescError.TheVariants as fault
-use Rattle.abi_layout.specs.Leaves.{is_sized, rise, have_bits, is_item, is_byte_item, is_in_bytes, is_leaf, first_offered, leaf_frame}
+use Rattle.abi_layout.specs.Leaves.{is_sized, rise, have_bits, is_item, is_byte_item, is_in_bytes, is_leaf, leaf_frame}
 use Rattle.abi_layout.specs.Trees.{leaf_items, item_of}
 use Rattle.abi_layout.specs.declared.desc.Forbid.{Forbid}
 use Rattle.abi_layout.specs.declared.desc.LeafDesc.{LeafDesc}
@@ -107,10 +107,6 @@ items_offer n free (it ∷ its) small h solid =
     let b = and_parts (is_solid_item n free it) (list_all (is_solid_item n free) its) solid in
     and_from (is_pattern (offer it)) (list_all is_pattern (offered its)) (item_offers n free it small a.0 b.0) (items_offer n free its small a.1 b.1)
 
-first_offer_leads : (its : List Item) (ps : List Pair) → first_offered its ≡ Some ps → first_of (offered its) ≡ Some ps
-first_offer_leads [] ps e = absurd (cc)
-first_offer_leads (it ∷ its) ps e = e
-
 pub leaf_sound : (l : LeafDesc) → is_leaf l ≡ true → l.size ≤ 1048576 → IsWellFormed (leaf_frame l)
 unfolding leaf_frame
 leaf_sound l h small =
@@ -130,11 +126,10 @@ leaf_sound l h small =
     let entries = rising_below l.size 0 l.free small rising.1 in
     let of_bytes = and_parts (are_bytes l.free) (list_all are_bytes (offered its)) bytes.1 in
     record {
-      lawful = lawful_from (leaf_frame l) sized.0 small (eqb-true (l.size % l.align) 0 sized.1) entries.1 solid.1;
+      lawful = lawful_from (leaf_frame l) sized.0 small (eqb-true (l.size % l.align) 0 sized.1) entries.1 (rw (items_made its) solid.1);
       mask = and_from (are_rising 0 l.free) (masks.have_bits l.free) entries.0 (mask_entries l.free bits.1 of_bytes.0);
-      patterns = items_offer l.size l.free its small items.1 solid.1;
-      bytes = of_bytes.1;
-      leads = first_offer_leads its;
+      patterns = rw (items_made its) (items_offer l.size l.free its small items.1 solid.1);
+      bytes = rw (items_made its) of_bytes.1;
     }
 
 pub leaf_mask : (l : LeafDesc) (es : List Pair) → is_leaf l ≡ true → l.size ≤ 1048576 → es ≡ l.free → IsMask es
@@ -144,15 +139,15 @@ leaf_mask l es h small e = rw e (leaf_sound l h small).mask
 pub leaf_patterns : (l : LeafDesc) (forbidden : List Forbid) → is_leaf l ≡ true → l.size ≤ 1048576 → forbidden ≡ l.forbidden
     → list_all is_pattern (offered (map item_of forbidden)) ≡ true
 unfolding leaf_frame
-leaf_patterns l forbidden h small e = rw e (leaf_sound l h small).patterns
+leaf_patterns l forbidden h small e = rw e (rw (items_made (leaf_items l)) at (leaf_sound l h small).patterns)
 
 -- a frame made of a leaf's parts
 pub leaf_made : (l : LeafDesc) (made : Frame) → is_leaf l ≡ true → l.size ≤ 1048576 → made.size ≡ l.size → made.align ≡ l.align → made.free ≡ l.free
-    → made.forbids ≡ leaf_items l → made.head ≡ first_offered (leaf_items l) → made.niches ≡ l.niches → made.indirections ≡ l.indirections
+    → made.forbidden ≡ tree_of (leaf_items l) → made.niches ≡ l.niches → made.indirections ≡ l.indirections
     → IsLawful made × (made ≡ leaf_frame l)
 unfolding leaf_frame
-leaf_made l made h small a b c d e f g =
-    let same : made ≡ leaf_frame l = same_frame made (leaf_frame l) a b c d e f g in (subst IsLawful (sym same) (leaf_sound l h small).lawful, same)
+leaf_made l made h small a b c d e f =
+    let same : made ≡ leaf_frame l = same_frame made (leaf_frame l) a b c d e f in (subst IsLawful (sym same) (leaf_sound l h small).lawful, same)
 
 -- the first item and the others, where there is one
 pub first_pattern : (l : LeafDesc) (all others : List Forbid) (first : Forbid) → is_leaf l ≡ true → l.size ≤ 1048576 → all ≡ l.forbidden → all ≡ first ∷ others
@@ -169,11 +164,8 @@ pub no_items : (l : LeafDesc) (all : List Forbid) → all ≡ l.forbidden → le
 no_items l [] e z = rw (← e) refl
 no_items l (it ∷ its) e z = absurd (omega (arith, z))
 
-pub nothing_items : items forbidden.End ≡ []
-nothing_items = search (rules, the_lemmas)
-
-pub nothing_head : head forbidden.End ≡ None
-nothing_head = search (rules, the_lemmas)
+pub nothing_tree : tree forbidden.End ≡ nothing
+nothing_tree = search (rules, the_lemmas)
 
 -- too large
 pub leaf_large : (part : ℕ) (l : LeafDesc) → is_leaf l ≡ true → 1048576 < l.size → leaf_fault part l ≡ Some (fault.TooLarge part)

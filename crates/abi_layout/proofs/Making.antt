@@ -1,6 +1,5 @@
 -- Frames that code made part by part.
 use Rattle.std.proofs.Common.{◌≡◌, ℕ, ◌+◌, ◌-◌, ◌<◌, ◌≤◌, max, map, true, false, ◌||◌, List, [], ◌∷◌, ◌++◌, cond, eqb, leb, ltb, bit_or, refl, sym, ap, subst, inl, inr, ◌*◌, ◌/◌, ◌%◌, ◌^◌, ◌∙◌, arith}
-use Rattle.std.specs.Option.{option_map}
 use Rattle.std.specs.List.{list_all}
 use Rattle.std.specs.Int.{next_multiple_of}
 use Rattle.std.proofs.lemmas.Bool.{and_parts, and_from, lt-ltb, ne_eqb, eq-eqb, cases_order, cases_lt}
@@ -8,14 +7,14 @@ use Rattle.std.proofs.lemmas.Nat.{pow_below, pow-add}
 use Rattle.std.proofs.Math.Nat.{div-add-mod, mul-le-mul_left, mul-suc, mul_assoc, mul-mod_right}
 use Rattle.abi_bits.specs.Pairs.{Pair, moved_pairs, are_below}
 use Rattle.abi_bits.specs.Mask.{mask_at, IsMask, entries_below}
-use Rattle.abi_bits.specs.Forbidden.{Item, pattern, range, moved_item, is_solid_byte, is_solid_item, is_item_below, are_items_below}
+use Rattle.abi_bits.specs.Forbidden.{Item, pattern, range, moved_item, is_solid_byte, is_solid_item, is_item_below, are_items_below, Forbidden, or, items_of, moved_tree}
 use Rattle.abi_bits.specs.declared.saturating_add_value.SaturatingAddValue.{SaturatingAddValue}
 use Rattle.abi_bits.proofs.Masks.{or_assoc, or_zero, zero_or}
 use Rattle.abi_bits.proofs.Entries.{from_bytes, mask_append}
 use Rattle.abi_bits.proofs.Sets.{moved_below}
 use Rattle.abi_bits.specs.Count.{added}
 use Rattle.abi_num.specs.Alignment.{IsAlignment}
-use Rattle.abi_det.specs.Frame.{Frame, IsLawful}
+use Rattle.abi_det.specs.Frame.{Frame, IsLawful, forbids}
 use Rattle.abi_det.proofs.Lawful.{parts as lawful_parts}
 use Rattle.abi_det.proofs.Sizes.{rounded, rounded_small, power_of_two, alignment_parts, alignment_positive}
 use Rattle.abi_layout.specs.Builders.{IsOpen, start_after, whole_between, byte_from, counted, after, pair, rounded_to}
@@ -100,40 +99,40 @@ moved_items_below size by free (it ∷ its) s room =
         let b = solid_parts size free at q.0 in
         lt-ltb (at + by) 1048576 (omega (arith, b.0, room))
 
-pub forbids_move : (f : Frame) (start : ℕ) (its : List Item) → IsLawful f → its ≡ f.forbids → start + f.size ≤ 1048576
-    → are_items_below 1048576 (map (moved_item start) its) ≡ true
-forbids_move f start its l q room = rw q (moved_items_below f.size start f.free f.forbids (lawful_parts f l).solid room)
+pub forbids_move : (f : Frame) (start : ℕ) (t : Forbidden) → IsLawful f → t ≡ f.forbidden → start + f.size ≤ 1048576
+    → are_items_below 1048576 (map (moved_item start) (items_of t)) ≡ true
+forbids_move f start t l q room = rw q (moved_items_below f.size start f.free (forbids f) (lawful_parts f l).solid room)
 
 -- a frame after other bytes
 pub after_made : (f made : Frame) (end start : ℕ) (old : List Pair) → old ≡ [] → start ≡ start_after end f → made.size ≡ start + f.size → made.align ≡ f.align
     → made.free ≡ entries_below (λ at. bit_or (mask_at old at) (bit_or (whole_between end start at) (byte_from start f at))) (start + f.size)
-    → made.forbids ≡ map (moved_item start) f.forbids → made.head ≡ option_map (moved_pairs start) f.head
+    → made.forbidden ≡ moved_tree start f.forbidden
     → made.niches ≡ f.niches → made.indirections ≡ f.indirections → made ≡ after f end
 unfolding after
-after_made f made end start old none q a b c d e h k =
+after_made f made end start old none q a b c d h k =
     same_frame made (after f end) (rw q at a) b
     (rw (none, q) at c ∙ entries_same (λ at. bit_or 0 (bit_or (whole_between end (start_after end f) at) (byte_from (start_after end f) f at)))
     (λ at. bit_or (whole_between end (start_after end f) at) (byte_from (start_after end f) f at)) (start_after end f + f.size)
     (λ at lt. zero_or (bit_or (whole_between end (start_after end f) at) (byte_from (start_after end f) f at))))
-    (rw q at d) (rw q at e) h k
+    (rw q at d) h k
 
 -- a field after other fields
 pub pair_made : (a b made : Frame) (start end : ℕ) (together : SaturatingAddValue) → start ≡ start_after a.size b → end ≡ start + b.size → made.size ≡ end → made.align ≡ max a.align b.align
     → made.free ≡ entries_below (λ at. bit_or (mask_at a.free at) (bit_or (whole_between a.size start at) (byte_from start b at))) (start + b.size)
-    → made.forbids ≡ a.forbids ++ map (moved_item start) b.forbids → made.head ≡ a.head
+    → made.forbidden ≡ or a.forbidden (moved_tree start b.forbidden)
     → together ≡ added a.niches b.niches → made.niches ≡ counted (eqb end (a.size + b.size)) together → made.indirections ≡ (a.indirections || b.indirections) → made ≡ pair a b
 unfolding pair
-pair_made a b made start end together q z c d e f g s h k =
-    same_frame made (pair a b) (rw (z, q) at c) d (rw q at e) (rw q at f) g (rw (z, q, s) at h) k
+pair_made a b made start end together q z c d e f s h k =
+    same_frame made (pair a b) (rw (z, q) at c) d (rw q at e) (rw q at f) (rw (z, q, s) at h) k
 
 -- a frame rounded to a larger alignment
 pub rounded_made : (f made : Frame) (whole own : ℕ) → IsOpen f → IsAlignment whole → f.align ≤ whole → own ≡ next_multiple_of f.size f.align
     → made.size ≡ next_multiple_of f.size whole → made.align ≡ whole
     → IsMask made.free → are_below own made.free ≡ true → ((at : ℕ) → mask_at made.free at ≡ bit_or (mask_at f.free at) (whole_between f.size own at))
-    → made.forbids ≡ f.forbids → made.head ≡ f.head → made.niches ≡ counted (eqb made.size f.size) f.niches → made.indirections ≡ f.indirections
+    → made.forbidden ≡ f.forbidden → made.niches ≡ counted (eqb made.size f.size) f.niches → made.indirections ≡ f.indirections
     → IsLawful made × (made ≡ rounded_to f whole)
 unfolding rounded_to
-rounded_made f made whole own o al le q a b m below bytes d e h k =
+rounded_made f made whole own o al le q a b m below bytes d h k =
     let p = open_parts f o in
     let size : ℕ = next_multiple_of f.size whole in
     let small : size ≤ 1048576 = rounded_small f.size whole p.1 al in
@@ -141,7 +140,7 @@ rounded_made f made whole own o al le q a b m below bytes d e h k =
     let same : made ≡ rounded_to f whole =
     same_frame made (rounded_to f whole) a b
     (rw q at (mask_told made.free (λ at. bit_or (mask_at f.free at) (whole_between f.size own at)) size m small (below_wider own size made.free fits below) bytes))
-    d e (rw a at h) k in
+    d (rw a at h) k in
     (subst IsLawful (sym same) (rounded_to_lawful f whole o al), same)
 
 -- one byte more, wholly free

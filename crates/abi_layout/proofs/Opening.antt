@@ -12,31 +12,32 @@ use Rattle.abi_bits.specs.Forbidden.{Item, pattern, range, moved_item, is_solid_
 use Rattle.abi_bits.specs.declared.saturating_add_value.SaturatingAddValue.{SaturatingAddValue}
 use Rattle.abi_bits.specs.declared.saturating_add_value.SaturatingAddValue.TheVariants as count
 use Rattle.abi_bits.proofs.Entries.{entries_at, zero_past, entries_lie_below}
-use Rattle.abi_det.specs.Frame.{Frame, IsLawful}
+use Rattle.abi_bits.proofs.Trees.{items_moved}
+use Rattle.abi_det.specs.Frame.{Frame, IsLawful, forbids}
 use Rattle.abi_det.proofs.Lawful.{parts as lawful_parts}
 use Rattle.abi_det.proofs.Sizes.{lawful_from, alignment_positive, alignment_max, rounded, rounded_small}
 use Rattle.abi_layout.specs.Builders.{rounded_to, start_after, whole_between, byte_from, IsOpen, pair, closed, closed_at, bare, overlaid, repeated}
 use Rattle.abi_layout.proofs.Bytes.{whole_before, whole_past, byte_before, byte_inside}
 
 pub open_parts : (f : Frame) → IsOpen f → IsAlignment f.align × (f.size ≤ 1048576) × (are_below f.size f.free ≡ true)
-    × (list_all (is_solid_item f.size f.free) f.forbids ≡ true)
+    × (list_all (is_solid_item f.size f.free) (forbids f) ≡ true)
 open_parts f o =
     let a = is_alignment f.align in
     let b = leb f.size 1048576 in
     let c = are_below f.size f.free in
-    let d = list_all (is_solid_item f.size f.free) f.forbids in
+    let d = list_all (is_solid_item f.size f.free) (forbids f) in
     let abc = and_parts (a && b && c) d o in
     let ab = and_parts (a && b) c abc.0 in
     let aa = and_parts a b ab.0 in
     (aa.0, leb-true f.size 1048576 aa.1, ab.1, abc.1)
 
 pub open_from : (f : Frame) → IsAlignment f.align → f.size ≤ 1048576 → are_below f.size f.free ≡ true
-    → list_all (is_solid_item f.size f.free) f.forbids ≡ true → IsOpen f
+    → list_all (is_solid_item f.size f.free) (forbids f) ≡ true → IsOpen f
 open_from f aligned small below solid =
     let a = is_alignment f.align in
     let b = leb f.size 1048576 in
     let c = are_below f.size f.free in
-    let d = list_all (is_solid_item f.size f.free) f.forbids in
+    let d = list_all (is_solid_item f.size f.free) (forbids f) in
     and_from (a && b && c) d (and_from (a && b) c (and_from a b aligned (le-leb f.size 1048576 small)) below) solid
 
 pub lawful_is_open : (f : Frame) → IsLawful f → IsOpen f
@@ -113,7 +114,7 @@ pair_open a b o l small =
     let w : whole_between a.size start at ≡ 0 = whole_before a.size start at q.0 in
     let y : byte_from start b at ≡ 0 = byte_before start b at (omega (arith, q.0)) in
     let z : bits at ≡ 0 = rw (q.1, w, y) refl in
-    solid_from (start + b.size) (entries_below bits (start + b.size)) at (omega (arith, q.0)) (none_told bits (start + b.size) at z)) a.forbids pa.3 in
+    solid_from (start + b.size) (entries_below bits (start + b.size)) at (omega (arith, q.0)) (none_told bits (start + b.size) at z)) (forbids a) pa.3 in
     let theirs = solid_moved b.size (start + b.size) start b.free (entries_below bits (start + b.size)) (λ at s.
     let q = solid_parts b.size b.free at s in
     let x : mask_at a.free (at + start) ≡ 0 = zero_past a.free a.size (at + start) pa.2 (omega arith) in
@@ -121,11 +122,11 @@ pair_open a b o l small =
     let e : (at + start) - start ≡ at = omega arith in
     let y : byte_from start b (at + start) ≡ 0 = byte_inside start b (at + start) (omega arith) ∙ ap (mask_at b.free) e ∙ q.1 in
     let z : bits (at + start) ≡ 0 = rw (x, w, y) refl in
-    solid_from (start + b.size) (entries_below bits (start + b.size)) (at + start) (omega (arith, q.0)) (none_told bits (start + b.size) (at + start) z)) b.forbids pb.solid in
+    solid_from (start + b.size) (entries_below bits (start + b.size)) (at + start) (omega (arith, q.0)) (none_told bits (start + b.size) (at + start) z)) (forbids b) pb.solid in
     open_from (pair a b) (alignment_max a.align b.align pa.0 pb.align) small (entries_lie_below bits (start + b.size))
-    (let s = list_all-append (is_solid_item (start + b.size) (entries_below bits (start + b.size))) a.forbids (map (moved_item start) b.forbids) in
-    rw s (and_from (list_all (is_solid_item (start + b.size) (entries_below bits (start + b.size))) a.forbids)
-    (list_all (is_solid_item (start + b.size) (entries_below bits (start + b.size))) (map (moved_item start) b.forbids)) mine theirs))
+    (let s = list_all-append (is_solid_item (start + b.size) (entries_below bits (start + b.size))) (forbids a) (map (moved_item start) (forbids b)) in
+    rw (items_moved start b.forbidden, s) (and_from (list_all (is_solid_item (start + b.size) (entries_below bits (start + b.size))) (forbids a))
+    (list_all (is_solid_item (start + b.size) (entries_below bits (start + b.size))) (map (moved_item start) (forbids b))) mine theirs))
 
 -- what a pair makes is open too
 pub pair_opens : (a b made : Frame) → made ≡ pair a b → IsOpen a → IsLawful b → start_after a.size b + b.size ≤ 1048576 → IsOpen made
@@ -144,7 +145,7 @@ rounded_to_lawful f whole o a =
     let q = solid_parts f.size f.free at s in
     let w : whole_between f.size own at ≡ 0 = whole_before f.size own at q.0 in
     let z : bits at ≡ 0 = rw (q.1, w) refl in
-    solid_from size (entries_below bits size) at (omega (arith, q.0, r.0)) (none_told bits size at z)) f.forbids p.3)
+    solid_from size (entries_below bits size) at (omega (arith, q.0, r.0)) (none_told bits size at z)) (forbids f) p.3)
 
 pub closed_lawful : (f : Frame) → IsOpen f → IsLawful (closed f)
 closed_lawful f o = rounded_to_lawful f f.align o (open_parts f o).0

@@ -7,6 +7,7 @@ use Rattle.abi_num.specs.Alignment.{is_alignment}
 use Rattle.abi_num.specs.Target.{target_rows, same_bool, same_target, is_row}
 use Rattle.abi_num.specs.declared.target.Target.{Target}
 use Rattle.abi_bits.specs.Forbidden.{pattern, is_solid_item}
+use Rattle.abi_bits.proofs.Trees.{items_made}
 use Rattle.abi_det.specs.Frame.{IsLawful}
 use Rattle.abi_layout.specs.Prims.{width_size, kind_width, scalar_size, scalar_items, plain_integer, zero_bytes, row_of, is_never_null, pointer_row, row_frame}
 use Rattle.abi_layout.specs.declared.desc.PointerKind.{PointerKind}
@@ -140,7 +141,7 @@ fit_lawful r fit =
     let f = and_parts (is_alignment r.align) (eqb (scalar_size r.scalar % r.align) 0) fit in
     let small = le-leb (scalar_size r.scalar) 1048576 (omega (arith, scalar_small r.scalar)) in
     let solid = scalar_solid r.scalar in
-    rw (f.0, f.1, small, solid) refl
+    rw (f.0, f.1, small, items_made (scalar_items r.scalar), solid) refl
 
 pub row_lawful : (t : Target) (f : Form) → is_row t ≡ true → IsLawful (row_frame (row_of t f))
 row_lawful t f row = fit_lawful (row_of t f) (row_fits t f row)

@@ -1,5 +1,5 @@
 -- Where no part has a fault, every part's frame keeps what the frames of layouts keep.
-use Rattle.std.proofs.Common.{◌≡◌, ℕ, ◌+◌, ◌-◌, ◌*◌, ◌%◌, ◌<◌, ◌≤◌, Bool, true, false, ◌&&◌, ◌||◌, List, [], ◌∷◌, ◌++◌, map, Option, Some, None, cond, eqb, leb, ltb, lit<, bit_or, refl, arith}
+use Rattle.std.proofs.Common.{◌≡◌, ℕ, ◌+◌, ◌-◌, ◌*◌, ◌%◌, ◌<◌, ◌≤◌, Bool, true, false, ◌&&◌, ◌||◌, List, [], ◌∷◌, map, Option, None, cond, eqb, leb, ltb, lit<, bit_or, refl, arith}
 use Rattle.std.specs.List.{list_all}
 use Rattle.std.specs.Int.{next_multiple_of}
 use Rattle.std.proofs.lemmas.Nat.{or_lt}
@@ -10,11 +10,12 @@ use Rattle.abi_bits.specs.Pairs.{Pair, are_rising, is_pattern, moved_pairs, are_
 use Rattle.abi_bits.specs.Mask.{mask_at, IsMask}
 use Rattle.abi_bits.specs.Forbidden.{Item, pattern, range, offer, offered, moved_item, is_solid_byte, is_solid_item}
 use Rattle.abi_bits.proofs.Masks.{rising_parts}
+use Rattle.abi_bits.proofs.Trees.{items_made, offer_moved}
 use Rattle.abi_bits.proofs.Entries.{entries_are_mask, mask_at_lt}
 use Rattle.abi_num.specs.Target.{is_row}
 use Rattle.abi_num.specs.declared.target.Target.{Target}
-use Rattle.abi_det.specs.Frame.{Frame, is_lawful, IsLawful}
-use Rattle.abi_det.specs.Offers.{Rules, first_of}
+use Rattle.abi_det.specs.Frame.{Frame, is_lawful, IsLawful, forbids}
+use Rattle.abi_det.specs.Offers.{Rules}
 use Rattle.abi_det.specs.Written.{written_sum}
 use Rattle.abi_det.specs.SoundPlacement.{are_bytes, IsWellFormed}
 use Rattle.abi_det.proofs.Chosen.{sound_sum}
@@ -27,7 +28,7 @@ use Rattle.abi_layout.specs.Builders.{start_after, whole_between, byte_from, bar
 use Rattle.abi_layout.specs.CoreSums.{payload_first, core_frame}
 use Rattle.abi_layout.specs.Forms.{form_of}
 use Rattle.abi_layout.specs.Leaves.{is_sized}
-use Rattle.abi_layout.specs.Structs.{positions, end_of, fields_align, fields_byte, fields_items, first_head, struct_frame}
+use Rattle.abi_layout.specs.Structs.{positions, end_of, fields_align, fields_byte, struct_frame}
 use Rattle.abi_layout.specs.declared.desc.WrapKind.{WrapKind}
 use Rattle.abi_layout.specs.declared.desc.WrapKind.TheVariants as wrapper
 use Rattle.abi_layout.specs.declared.desc_error.DescError.TheVariants as fault
@@ -36,15 +37,15 @@ use Rattle.abi_layout.specs.declared.scalar.Scalar.{Scalar}
 use Rattle.abi_layout.specs.declared.scalar.Scalar.TheVariants as scalars
 use Rattle.abi_layout.specs.declared.scalar.Width.{Width}
 use Rattle.abi_layout.specs.declared.scalar.Width.TheVariants as width
-use Rattle.abi_layout.specs.Prims.{width_size, zero_bytes, scalar_items, scalar_head, row_frame, prim_row, pointer_row}
+use Rattle.abi_layout.specs.Prims.{width_size, zero_bytes, scalar_items, row_frame, prim_row, pointer_row}
 use Rattle.abi_layout.specs.Folds.{AreLawful}
 use Rattle.abi_layout.specs.Trees as tree
-use Rattle.abi_layout.specs.Trees.{Tree, Branches, Label, sides, leaf_items, parts, parts_in}
+use Rattle.abi_layout.specs.Trees.{Tree, Branches, Label, sides, parts, parts_in}
 use Rattle.abi_layout.specs.Frames.{wrapped, written_frame, written_frames}
 use Rattle.abi_layout.specs.Faults.{part_fault, part_fault_in}
 use Rattle.abi_layout.proofs.Faultless.{no_fault, held, IsFaultless, own, after_one, after_two, leaf_faultless, right_request, struct_lawful}
 use Rattle.abi_layout.proofs.LeafRules.{leaf_sound}
-use Rattle.abi_layout.proofs.Folding.{lawful_keeps, first_start, unmoved_pairs}
+use Rattle.abi_layout.proofs.Folding.{fields_items, struct_forbids}
 use Rattle.abi_layout.proofs.Opening.{solid_parts, rows_lawful, overlaid_lawful}
 use Rattle.abi_layout.proofs.Rows.{row_lawful, pointer_lawful}
 
@@ -99,10 +100,6 @@ moved_kept by n (q ∷ ps) p b le = first_zero by (q ∷ ps) (rising_moved by 0 
   first_zero : (from : ℕ) (qs : List Pair) → are_rising (0 + from) (moved_pairs by qs) ≡ true → are_rising 0 (moved_pairs by qs) ≡ true
   first_zero from qs r = later_zero (0 + from) (moved_pairs by qs) r
 
-offer_moved : (by : ℕ) (it : Item) → offer (moved_item by it) ≡ moved_pairs by (offer it)
-offer_moved by (pattern ps) = refl
-offer_moved by (range at least greatest) = refl
-
 solid_pairs : (n : ℕ) (free : List Pair) (ps : List Pair) → list_all (λ p. is_solid_byte n free p.0) ps ≡ true → are_below n ps ≡ true
 solid_pairs n free [] h = refl
 solid_pairs n free (p ∷ ps) h =
@@ -143,32 +140,22 @@ fields_bytes : (end : ℕ) (fs : List Frame) → AreWellFormed fs → list_all a
 fields_bytes end [] s = refl
 fields_bytes end (f ∷ fs) s =
     let start = start_after end f in
-    let own : List Item = map (moved_item start) f.forbids in
+    let own : List Item = map (moved_item start) (forbids f) in
     let more : List Item = fields_items (positions (start + f.size) fs) in
     rw (map-append offer own more, list_all-append are_bytes (offered own) (offered more))
-    (and_from (list_all are_bytes (offered own)) (list_all are_bytes (offered more)) (items_bytes start f.forbids s.0.bytes) (fields_bytes (start + f.size) fs s.1))
+    (and_from (list_all are_bytes (offered own)) (list_all are_bytes (offered more)) (items_bytes start (forbids f) s.0.bytes) (fields_bytes (start + f.size) fs s.1))
 
 fields_kept : (n end : ℕ) (free : List Pair) (fs : List Frame) → AreWellFormed fs → list_all (is_solid_item n free) (fields_items (positions end fs)) ≡ true
     → n ≤ 1048576 → list_all is_pattern (offered (fields_items (positions end fs))) ≡ true
 fields_kept n end free [] s h le = refl
 fields_kept n end free (f ∷ fs) s h le =
     let start = start_after end f in
-    let own : List Item = map (moved_item start) f.forbids in
+    let own : List Item = map (moved_item start) (forbids f) in
     let more : List Item = fields_items (positions (start + f.size) fs) in
     let a = and_parts (list_all (is_solid_item n free) own) (list_all (is_solid_item n free) more) (rw (list_all-append (is_solid_item n free) own more) at h) in
     rw (map-append offer own more, list_all-append is_pattern (offered own) (offered more))
     (and_from (list_all is_pattern (offered own)) (list_all is_pattern (offered more))
-    (items_kept start n free f.forbids s.0.patterns a.0 le) (fields_kept n (start + f.size) free fs s.1 a.1 le))
-
-lead_kept : (start : ℕ) (its more : List Item) (ps : List Pair) → start ≡ 0 → first_of (offered its) ≡ Some ps
-    → first_of (offered (map (moved_item start) its ++ more)) ≡ Some ps
-lead_kept start [] more ps z e = absurd (cc)
-lead_kept start (it ∷ its) more ps z e = rw (z, offer_moved 0 it, unmoved_pairs (offer it)) e
-
-fields_lead : (fs : List Frame) → AreWellFormed fs → (ps : List Pair) → first_head fs ≡ Some ps → first_of (offered (fields_items (positions 0 fs))) ≡ Some ps
-fields_lead [] s ps e = absurd (cc)
-fields_lead (f ∷ fs) s ps e =
-    lead_kept (start_after 0 f) f.forbids (fields_items (positions (start_after 0 f + f.size) fs)) ps (first_start f (lawful_keeps f s.0.lawful).positive) (s.0.leads ps e)
+    (items_kept start n free (forbids f) s.0.patterns a.0 le) (fields_kept n (start + f.size) free fs s.1 a.1 le))
 
 pub struct_sound : (fs : List Frame) (align : Option ℕ) → AreWellFormed fs → IsLawful (struct_frame fs align) → IsWellFormed (struct_frame fs align)
 unfolding struct_frame
@@ -180,19 +167,9 @@ struct_sound fs align s l =
       lawful = l;
       mask = entries_are_mask bits (struct_frame fs align).size parts.size
           (λ at. or_lt 8 (fields_byte (positions 0 fs) at) (whole_between end (next_multiple_of end (fields_align fs)) at) (fields_small 0 fs at s) (whole_small end (next_multiple_of end (fields_align fs)) at));
-      patterns = fields_kept (struct_frame fs align).size 0 (struct_frame fs align).free fs s parts.solid parts.size;
-      bytes = fields_bytes 0 fs s;
-      leads = fields_lead fs s;
+      patterns = rw (struct_forbids fs align) (fields_kept (struct_frame fs align).size 0 (struct_frame fs align).free fs s (rw (struct_forbids fs align) at parts.solid) parts.size);
+      bytes = rw (struct_forbids fs align) (fields_bytes 0 fs s);
     }
-
-lead_scalar : (c : Scalar) (ps : List Pair) → scalar_head c ≡ Some ps → first_of (offered (scalar_items c)) ≡ Some ps
-lead_scalar scalars.Unit ps e = absurd (cc)
-lead_scalar scalars.Bool ps e = e
-lead_scalar scalars.Order ps e = e
-lead_scalar (scalars.Int i) ps e = by_zero i.zero (zero_bytes (width_size i.width)) ps e where
-  by_zero : (zero : Bool) (zeros ps : List Pair) → cond zero None (Some zeros) ≡ Some ps → first_of (offered (cond zero [] (pattern zeros ∷ []))) ≡ Some ps
-  by_zero true zeros ps e = absurd (cc)
-  by_zero false zeros ps e = e
 
 -- the pattern of zero bytes of each width
 zeros_kept : (w : Width) → (is_pattern (zero_bytes (width_size w)) ≡ true) × (are_bytes (zero_bytes (width_size w)) ≡ true)
@@ -218,16 +195,15 @@ unfolding row_frame
 row_sound r l = record {
   lawful = l;
   mask = refl;
-  patterns = each_offered is_pattern r.scalar refl (λ w. (zeros_kept w).0);
-  bytes = each_offered are_bytes r.scalar refl (λ w. (zeros_kept w).1);
-  leads = lead_scalar r.scalar;
+  patterns = rw (items_made (scalar_items r.scalar)) (each_offered is_pattern r.scalar refl (λ w. (zeros_kept w).0));
+  bytes = rw (items_made (scalar_items r.scalar)) (each_offered are_bytes r.scalar refl (λ w. (zeros_kept w).1));
 }
 
 -- ---- frames made of frames
 
 bare_sound : (size align : ℕ) (niches : SaturatingAddValue) (indirections : Bool) → IsLawful (bare size align niches indirections)
     → IsWellFormed (bare size align niches indirections)
-bare_sound size align niches indirections l = record { lawful = l; mask = refl; patterns = refl; bytes = refl; leads = λ ps e. absurd (cc) }
+bare_sound size align niches indirections l = record { lawful = l; mask = refl; patterns = refl; bytes = refl }
 
 bytes_sound : (size align : ℕ) (niches : SaturatingAddValue) (indirections : Bool) → is_sized size align ≡ true → size ≤ 1048576
     → IsWellFormed (bare size align niches indirections)
@@ -269,10 +245,10 @@ core_sound ok err l m = by_side (payload_first ok err) where
 -- what a wrapper changes is asked of no layout
 wrapped_sound : (kind : WrapKind) (f : Frame) → IsWellFormed f → IsWellFormed (wrapped kind f)
 wrapped_sound wrapper.ManuallyDrop f s = s
-wrapped_sound wrapper.MaybeUninit f s = record { lawful = s.lawful; mask = s.mask; patterns = s.patterns; bytes = s.bytes; leads = s.leads }
-wrapped_sound wrapper.UnsafeCell f s = record { lawful = s.lawful; mask = s.mask; patterns = s.patterns; bytes = s.bytes; leads = s.leads }
+wrapped_sound wrapper.MaybeUninit f s = record { lawful = s.lawful; mask = s.mask; patterns = s.patterns; bytes = s.bytes }
+wrapped_sound wrapper.UnsafeCell f s = record { lawful = s.lawful; mask = s.mask; patterns = s.patterns; bytes = s.bytes }
 wrapped_sound wrapper.Pin f s = s
-wrapped_sound wrapper.NotPod f s = record { lawful = s.lawful; mask = s.mask; patterns = s.patterns; bytes = s.bytes; leads = s.leads }
+wrapped_sound wrapper.NotPod f s = record { lawful = s.lawful; mask = s.mask; patterns = s.patterns; bytes = s.bytes }
 wrapped_sound wrapper.OrInfallible f s = s
 
 -- ---- all parts

@@ -10,20 +10,19 @@ use Rattle.abi_det.specs.Roles.{union_size}
 use Rattle.abi_det.specs.Written.{written_placement, written_sum}
 use Rattle.abi_det.specs.declared.placements.Placement.{Placement}
 use Rattle.abi_det.proofs.Lawful.{size_bound}
-use Rattle.abi_layout.specs.Trees.{Tree, Branches, sides, prim, struct, array, union, sum, core, wrap, stable_if, pointer, no_niches, leaf, field, variant_parts, parts}
+use Rattle.abi_layout.specs.Trees.{Tree, Branches, prim, struct, array, union, sum, core, wrap, stable_if, pointer, no_niches, leaf, field, variant_parts, parts}
 use Rattle.abi_layout.specs.Builders.{start_after}
 use Rattle.abi_layout.specs.Faults.{IsFault, sum_fault, core_fault, part_fault}
 use Rattle.abi_layout.specs.Frames.{written_frame}
-use Rattle.abi_layout.specs.Plans.{sum_layout_at, sum_layout_of, shape_of, shapes_of, is_second, IsNamed, AreNamed}
+use Rattle.abi_layout.specs.Plans.{sum_layout_at, sum_layout_of, shape_of, shapes_of, IsNamed, AreNamed}
 use Rattle.abi_layout.specs.Sums.{numbered_placement, written_sums}
-use Rattle.abi_layout.specs.Shape.{Shape, Shapes, last, field as behind, sum as shape_sum}
+use Rattle.abi_layout.specs.Shape.{Shapes, last, field as behind}
 use Rattle.abi_layout.specs.PartView.{shape, shapes}
 use Rattle.abi_layout.specs.declared.desc_error.DescError.{DescError}
 use Rattle.abi_layout.specs.declared.desc_error.DescError.TheVariants as fault
 use Rattle.abi_layout.specs.declared.placed.Placed.{Placed}
 use Rattle.abi_layout.specs.declared.part.PartField.{PartField}
 use Rattle.abi_layout.specs.declared.part.Sort.{Sort}
-use Rattle.abi_layout.specs.declared.part.SumLayout.{SumLayout}
 use Rattle.abi_layout.proofs.Steps.{no_memory}
 
 -- ---- fields

@@ -2,10 +2,10 @@
 use Rattle.std.proofs.Common.{◌≡◌, refl, ℕ, List, [], ◌∷◌, map, true, false, Some, None}
 use Rattle.abi_num.specs.declared.target.Target.{Target}
 use Rattle.abi_bits.specs.Mask.{entries_below}
-use Rattle.abi_bits.specs.Forbidden.{Item, pattern, range}
+use Rattle.abi_bits.specs.Forbidden.{Item, pattern, range, Forbidden, nothing, alone, or}
 use Rattle.abi_bits.specs.declared.saturating_add_value.SaturatingAddValue.{SaturatingAddValue}
 use Rattle.abi_bits.specs.declared.saturating_add_value.SaturatingAddValue.TheVariants as count
-use Rattle.abi_det.specs.Frame.{Frame}
+use Rattle.abi_det.specs.Frame.{Frame, forbids}
 use Rattle.abi_det.specs.Offers.{One, offer_at, first_offer}
 use Rattle.abi_det.specs.Written.{written_placement, written_sum, refusals_below}
 use Rattle.abi_layout.specs.Builders.{after, pair, rounded_to, closed, closed_at, overlaid, repeated}
@@ -30,20 +30,20 @@ le32o : Target
 le32o = record { little = true; pointer = 4; u64_align = 4; u128_align = 16 }
 
 plain : ℕ → ℕ → Frame
-plain size align = record { size = size; align = align; free = []; forbids = []; head = None; niches = count.B0; indirections = false }
+plain size align = record { size = size; align = align; free = []; forbidden = nothing; niches = count.B0; indirections = false }
 
 bool_frame : Frame
-bool_frame = record { size = 1; align = 1; free = []; forbids = range 0 2 255 ∷ []; head = Some ((0, 2) ∷ []); niches = count.Saturator; indirections = false }
+bool_frame = record { size = 1; align = 1; free = []; forbidden = alone (range 0 2 255); niches = count.Saturator; indirections = false }
 
 non_zero_byte : Frame
-non_zero_byte = record { size = 1; align = 1; free = []; forbids = pattern ((0, 0) ∷ []) ∷ []; head = Some ((0, 0) ∷ []); niches = count.B1; indirections = false }
+non_zero_byte = record { size = 1; align = 1; free = []; forbidden = alone (pattern ((0, 0) ∷ [])); niches = count.B1; indirections = false }
 
 after_three : after (plain 2 2) 3 ≡ record (plain 6 2) { free = (3, 255) ∷ [] }
 unfolding after entries_below plain
 after_three = refl
 
 word_and_bool : Frame
-word_and_bool = record { size = 5; align = 4; free = []; forbids = range 4 2 255 ∷ []; head = None; niches = count.Saturator; indirections = false }
+word_and_bool = record { size = 5; align = 4; free = []; forbidden = or nothing (alone (range 4 2 255)); niches = count.Saturator; indirections = false }
 
 pair_of_word_and_bool : pair (plain 4 4) bool_frame ≡ word_and_bool
 unfolding pair entries_below plain bool_frame word_and_bool
@@ -53,8 +53,12 @@ whole_word_and_bool : closed word_and_bool ≡ record word_and_bool { size = 8; 
 unfolding rounded_to entries_below word_and_bool
 whole_word_and_bool = refl
 
-word_and_byte : pair (plain 4 4) (plain 1 1) ≡ plain 5 4
-unfolding pair entries_below plain
+-- what two that forbid nothing forbid
+two_free : Forbidden
+two_free = or nothing nothing
+
+word_and_byte : pair (plain 4 4) (plain 1 1) ≡ record (plain 5 4) { forbidden = two_free }
+unfolding pair entries_below plain two_free
 word_and_byte = refl
 
 -- bytes 8 to 15 are not free
@@ -62,8 +66,8 @@ sixteen : closed_at (plain 5 4) 16 ≡ record (plain 16 16) { free = (5, 255) �
 unfolding rounded_to entries_below plain
 sixteen = refl
 
-sixteen_by_positions : struct_frame (plain 4 4 ∷ plain 1 1 ∷ []) (Some 16) ≡ record (plain 16 16) { free = (5, 255) ∷ (6, 255) ∷ (7, 255) ∷ []; niches = count.Saturator }
-unfolding struct_frame entries_below plain
+sixteen_by_positions : struct_frame (plain 4 4 ∷ plain 1 1 ∷ []) (Some 16) ≡ record (plain 16 16) { forbidden = two_free; free = (5, 255) ∷ (6, 255) ∷ (7, 255) ∷ []; niches = count.Saturator }
+unfolding struct_frame entries_below plain two_free
 sixteen_by_positions = refl
 
 one_bool : repeated bool_frame 1 ≡ bool_frame
@@ -86,22 +90,22 @@ word_or_byte = refl
 record Row : Type 0 where
   size : ℕ
   align : ℕ
-  forbids : List Item
+  items : List Item
   niches : SaturatingAddValue
 
 row : Primitive → Row
-row p = let f : Frame = prim_frame le64 p in record { size = f.size; align = f.align; forbids = f.forbids; niches = f.niches }
+row p = let f : Frame = prim_frame le64 p in record { size = f.size; align = f.align; items = forbids f; niches = f.niches }
 
 -- n bytes aligned to n, of which none is forbidden
 whole : ℕ → Row
-whole n = record { size = n; align = n; forbids = []; niches = count.B0 }
+whole n = record { size = n; align = n; items = []; niches = count.B0 }
 
 -- n bytes aligned to n, which are not 0 at all of the offsets
 not_zero : ℕ → List ℕ → Row
-not_zero n offsets = record { size = n; align = n; forbids = pattern (map (λ at. (at, 0)) offsets) ∷ []; niches = count.B1 }
+not_zero n offsets = record { size = n; align = n; items = pattern (map (λ at. (at, 0)) offsets) ∷ []; niches = count.B1 }
 
 empty_and_truth : map row (the.Unit ∷ the.Bool ∷ [])
-    ≡ record { size = 0; align = 1; forbids = []; niches = count.B0 } ∷ record { size = 1; align = 1; forbids = range 0 2 255 ∷ []; niches = count.Saturator } ∷ []
+    ≡ record { size = 0; align = 1; items = []; niches = count.B0 } ∷ record { size = 1; align = 1; items = range 0 2 255 ∷ []; niches = count.Saturator } ∷ []
 unfolding row row_frame le64
 empty_and_truth = refl
 
@@ -143,7 +147,7 @@ but_the_greatest : prim_frame le64 the.NonMaxU8 ≡ non_zero_byte
 unfolding row_frame non_zero_byte le64
 but_the_greatest = refl
 
-order : row the.Ordering ≡ record { size = 1; align = 1; forbids = range 0 2 254 ∷ []; niches = count.Saturator }
+order : row the.Ordering ≡ record { size = 1; align = 1; items = range 0 2 254 ∷ []; niches = count.Saturator }
 unfolding row row_frame le64
 order = refl
 
@@ -152,12 +156,12 @@ unfolding row_frame plain le64
 descriptor = refl
 
 one_niche : pair (plain 1 1) non_zero_byte
-    ≡ record { size = 2; align = 1; free = []; forbids = pattern ((1, 0) ∷ []) ∷ []; head = None; niches = count.B1; indirections = false }
+    ≡ record { size = 2; align = 1; free = []; forbidden = or nothing (alone (pattern ((1, 0) ∷ []))); niches = count.B1; indirections = false }
 unfolding pair entries_below plain non_zero_byte
 one_niche = refl
 
 many_niches : pair non_zero_byte non_zero_byte
-    ≡ record { size = 2; align = 1; free = []; forbids = pattern ((0, 0) ∷ []) ∷ pattern ((1, 0) ∷ []) ∷ []; head = Some ((0, 0) ∷ []); niches = count.Saturator; indirections = false }
+    ≡ record { size = 2; align = 1; free = []; forbidden = or (alone (pattern ((0, 0) ∷ []))) (alone (pattern ((1, 0) ∷ []))); niches = count.Saturator; indirections = false }
 unfolding pair entries_below non_zero_byte
 many_niches = refl
 
@@ -173,7 +177,7 @@ pair_tree : Tree
 pair_tree = struct label (field [] (prim the.U8) (field [] (prim the.NonZeroU16) none)) None
 
 byte_and_word : written_frame One le64 pair_tree
-    ≡ record { size = 4; align = 2; free = (1, 255) ∷ []; forbids = pattern ((2, 0) ∷ (3, 0) ∷ []) ∷ []; head = None; niches = count.Saturator; indirections = false }
+    ≡ record { size = 4; align = 2; free = (1, 255) ∷ []; forbidden = or nothing (alone (pattern ((2, 0) ∷ (3, 0) ∷ []))); niches = count.Saturator; indirections = false }
 unfolding struct_frame row_frame entries_below pair_tree le64 label
 byte_and_word = refl
 
@@ -229,7 +233,7 @@ two_patterns = refl
 
 -- whatever it points to
 reference : written_frame One le16 (pointer pointers.Ref (bytes 128))
-    ≡ record { size = 2; align = 2; free = []; forbids = pattern ((0, 0) ∷ (1, 0) ∷ []) ∷ []; head = Some ((0, 0) ∷ (1, 0) ∷ []); niches = count.B1; indirections = true }
+    ≡ record { size = 2; align = 2; free = []; forbidden = alone (pattern ((0, 0) ∷ (1, 0) ∷ [])); niches = count.B1; indirections = true }
 unfolding bytes row_frame le16
 reference = refl
 

@@ -1,21 +1,21 @@
 -- Frames built from frames: after other bytes, as a pair of fields, closed as a struct, as a union, as an array.
-use Rattle.std.specs.Prelude.{ℕ, ◌+◌, ◌-◌, ◌*◌, [], ◌++◌, Bool, true, false, ◌&&◌, ◌||◌, nat_le, nat_lt, ◌==◌, max, map, None, option_map, bit_or, IsTrue, if◌then◌else◌}
+use Rattle.std.specs.Prelude.{ℕ, ◌+◌, ◌-◌, ◌*◌, [], Bool, true, false, ◌&&◌, ◌||◌, nat_le, nat_lt, ◌==◌, max, bit_or, IsTrue, if◌then◌else◌}
 use Rattle.std.specs.List.{list_all}
 use Rattle.std.specs.Int.{next_multiple_of}
 use Rattle.abi_num.specs.Alignment.{is_alignment}
-use Rattle.abi_bits.specs.Pairs.{moved_pairs, are_below, max_size}
+use Rattle.abi_bits.specs.Pairs.{are_below, max_size}
 use Rattle.abi_bits.specs.Mask.{mask_at, entries_below}
-use Rattle.abi_bits.specs.Forbidden.{moved_item, is_solid_item}
+use Rattle.abi_bits.specs.Forbidden.{nothing, or, moved_tree, is_solid_item}
 use Rattle.abi_bits.specs.declared.saturating_add_value.SaturatingAddValue.{SaturatingAddValue}
 use Rattle.abi_bits.specs.declared.saturating_add_value.SaturatingAddValue.TheVariants as count
-use Rattle.abi_det.specs.Frame.{Frame}
+use Rattle.abi_det.specs.Frame.{Frame, forbids}
 use Rattle.abi_bits.specs.Count.{added}
 
 -- lawful but for the size, which need be no multiple of the alignment: what is built of fields before it is closed
 abbrev pub is_open : Frame → Bool
 is_open f =
     is_alignment f.align && nat_le f.size max_size
-    && are_below f.size f.free && list_all (is_solid_item f.size f.free) f.forbids
+    && are_below f.size f.free && list_all (is_solid_item f.size f.free) (forbids f)
 
 abbrev pub IsOpen : Frame → Type 0
 IsOpen f = IsTrue (is_open f)
@@ -40,8 +40,7 @@ after f end = let start : ℕ = start_after end f in record {
   free =
       entries_below (λ at. bit_or (whole_between end start at) (byte_from start f at))
       (start + f.size);
-  forbids = map (moved_item start) f.forbids;
-  head = option_map (moved_pairs start) f.head;
+  forbidden = moved_tree start f.forbidden;
   niches = f.niches;
   indirections = f.indirections;
 }
@@ -61,8 +60,7 @@ pair a b = let start : ℕ = start_after a.size b in record {
       (λ at. bit_or (mask_at a.free at)
       (bit_or (whole_between a.size start at) (byte_from start b at)))
       (start + b.size);
-  forbids = a.forbids ++ map (moved_item start) b.forbids;
-  head = a.head;
+  forbidden = or a.forbidden (moved_tree start b.forbidden);
   niches = counted (start + b.size == a.size + b.size) (added a.niches b.niches);
   indirections = a.indirections || b.indirections;
 }
@@ -94,8 +92,7 @@ bare size align niches indirections =
       size = size;
       align = align;
       free = [];
-      forbids = [];
-      head = None;
+      forbidden = nothing;
       niches = niches;
       indirections = indirections;
     }

@@ -4,7 +4,7 @@ use Rattle.abi_bits.specs.Pairs.{Pair}
 use Rattle.abi_bits.specs.Forbidden.{Item, pattern}
 use Rattle.abi_bits.specs.declared.saturating_add_value.SaturatingAddValue.{SaturatingAddValue}
 use Rattle.abi_bits.specs.declared.saturating_add_value.SaturatingAddValue.TheVariants as count
-use Rattle.abi_det.specs.Frame.{Frame}
+use Rattle.abi_det.specs.Frame.{Frame, forbids}
 use Rattle.abi_layout.specs.Builders.{bare}
 use Rattle.abi_layout.specs.Trees.{sides}
 
@@ -38,12 +38,12 @@ payload ok err = sides ok err (payload_first ok err)
 
 -- what the payload never is: it means the other variant
 abbrev pub absence : Frame → Frame → List Pair
-absence ok err = sole_pattern (payload ok err).forbids
+absence ok err = sole_pattern (forbids (payload ok err))
 
 -- the payload has one niche, which is a pattern, and the other variant has no bytes
 abbrev pub is_core_sum : Frame → Frame → Bool
 is_core_sum ok err =
-    is_one (payload ok err).niches && is_sole_pattern (payload ok err).forbids
+    is_one (payload ok err).niches && is_sole_pattern (forbids (payload ok err))
     && is_empty (sides err ok (payload_first ok err))
 
 -- as large as its payload, and nothing is left for a sum around it

@@ -1,6 +1,7 @@
 -- A struct built field by field, as code builds it.
 use Rattle.std.specs.Prelude.{List, [], ◌∷◌, Option, Some, None, ℕ, IsTrue, false}
 use Rattle.std.specs.List.{list_all}
+use Rattle.abi_bits.specs.Forbidden.{nothing}
 use Rattle.abi_bits.specs.declared.saturating_add_value.SaturatingAddValue.TheVariants as count
 use Rattle.abi_det.specs.Frame.{Frame, is_lawful}
 use Rattle.abi_layout.specs.Builders.{pair, closed, closed_at}
@@ -16,8 +17,7 @@ no_bytes =
       size = 0;
       align = 1;
       free = [];
-      forbids = [];
-      head = None;
+      forbidden = nothing;
       niches = count.B0;
       indirections = false;
     }

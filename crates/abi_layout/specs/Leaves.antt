@@ -1,9 +1,9 @@
 -- Types that are described by their layout alone: which descriptions are well-formed, and their frames.
-use Rattle.std.specs.Prelude.{◌≡◌, ℕ, ◌+◌, ◌%◌, List, [], ◌∷◌, Bool, true, ◌&&◌, not, nat_le, nat_lt, ◌==◌, Option, Some, None, length}
+use Rattle.std.specs.Prelude.{◌≡◌, ℕ, ◌+◌, ◌%◌, List, [], ◌∷◌, Bool, true, ◌&&◌, not, nat_le, nat_lt, ◌==◌, length}
 use Rattle.std.specs.List.{list_all}
 use Rattle.abi_num.specs.Alignment.{is_alignment}
 use Rattle.abi_bits.specs.Pairs.{Pair, is_empty, are_bytes}
-use Rattle.abi_bits.specs.Forbidden.{Item, pattern, range, offer, offered, is_solid_item}
+use Rattle.abi_bits.specs.Forbidden.{Item, pattern, range, offer, offered, tree_of, is_solid_item}
 use Rattle.abi_det.specs.Frame.{Frame}
 use Rattle.abi_layout.specs.Trees.{leaf_items}
 use Rattle.abi_layout.specs.declared.desc.LeafDesc.{LeafDesc}
@@ -51,19 +51,13 @@ is_leaf l =
     && list_all (is_solid_item l.size l.free) (leaf_items l)
     && is_in_bytes l
 
--- what the first item offers
-abbrev pub first_offered : List Item → Option (List Pair)
-first_offered [] = None
-first_offered (it ∷ its) = Some (offer it)
-
 -- as it is described
 unfoldable pub leaf_frame : LeafDesc → Frame
 leaf_frame l = record {
   size = l.size;
   align = l.align;
   free = l.free;
-  forbids = leaf_items l;
-  head = first_offered (leaf_items l);
+  forbidden = tree_of (leaf_items l);
   niches = l.niches;
   indirections = l.indirections;
 }

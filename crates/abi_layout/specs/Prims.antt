@@ -1,8 +1,8 @@
 -- Primitives: how each stands in its bytes on a target, in one table, and the frame that follows from its row.
-use Rattle.std.specs.Prelude.{ℕ, zero, suc, ◌-◌, ◌*◌, ◌^◌, List, [], ◌∷◌, ◌++◌, Bool, true, false, ◌&&◌, nat_le, nat_lt, ◌==◌, Option, Some, None, if◌then◌else◌}
+use Rattle.std.specs.Prelude.{ℕ, zero, suc, ◌-◌, ◌*◌, ◌^◌, List, [], ◌∷◌, ◌++◌, Bool, true, false, ◌&&◌, nat_le, nat_lt, ◌==◌, if◌then◌else◌}
 use Rattle.abi_num.specs.declared.target.Target.{Target}
 use Rattle.abi_bits.specs.Pairs.{Pair}
-use Rattle.abi_bits.specs.Forbidden.{Item, pattern, range}
+use Rattle.abi_bits.specs.Forbidden.{Item, pattern, range, tree_of}
 use Rattle.abi_bits.specs.declared.saturating_add_value.SaturatingAddValue.TheVariants as count
 use Rattle.abi_det.specs.Frame.{Frame}
 use Rattle.abi_layout.specs.Builders.{bare}
@@ -168,20 +168,13 @@ scalar_items scalars.Bool = range 0 2 255 ∷ []
 scalar_items scalars.Order = range 0 2 254 ∷ []
 scalar_items (scalars.Int i) = if i.zero then [] else pattern (zero_bytes (width_size i.width)) ∷ []
 
-abbrev pub scalar_head : Scalar → Option (List Pair)
-scalar_head scalars.Unit = None
-scalar_head scalars.Bool = Some ((0, 2) ∷ [])
-scalar_head scalars.Order = Some ((0, 2) ∷ [])
-scalar_head (scalars.Int i) = if i.zero then None else Some (zero_bytes (width_size i.width))
-
 -- what has no parts has no free bits
 unfoldable pub row_frame : Row → Frame
 row_frame r = record {
   size = scalar_size r.scalar;
   align = r.align;
   free = [];
-  forbids = scalar_items r.scalar;
-  head = scalar_head r.scalar;
+  forbidden = tree_of (scalar_items r.scalar);
   niches = r.niches;
   indirections = r.indirections;
 }

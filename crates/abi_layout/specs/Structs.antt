@@ -1,9 +1,8 @@
 -- A struct by positions: where each field starts, which bytes lie between, where the end is.
-use Rattle.std.specs.Prelude.{ℕ, ◌+◌, List, [], ◌∷◌, ◌++◌, Bool, false, ◌||◌, ◌==◌, max, map, Option, Some, None, bit_or}
+use Rattle.std.specs.Prelude.{ℕ, ◌+◌, List, [], ◌∷◌, Bool, false, ◌||◌, ◌==◌, max, Option, Some, None, bit_or}
 use Rattle.std.specs.Int.{next_multiple_of}
-use Rattle.abi_bits.specs.Pairs.{Pair}
 use Rattle.abi_bits.specs.Mask.{entries_below}
-use Rattle.abi_bits.specs.Forbidden.{Item, moved_item}
+use Rattle.abi_bits.specs.Forbidden.{Forbidden, nothing, or, moved_tree}
 use Rattle.abi_bits.specs.declared.saturating_add_value.SaturatingAddValue.{SaturatingAddValue}
 use Rattle.abi_bits.specs.declared.saturating_add_value.SaturatingAddValue.TheVariants as count
 use Rattle.abi_det.specs.Frame.{Frame}
@@ -56,13 +55,15 @@ fields_byte (p ∷ ps) at =
     bit_or (bit_or (whole_between p.before p.start at) (byte_from p.start p.held at))
     (fields_byte ps at)
 
-abbrev pub fields_items : List Positioned → List Item
-fields_items [] = []
-fields_items (p ∷ ps) = map (moved_item p.start) p.held.forbids ++ fields_items ps
+-- what the fields forbid at their places, each joined to the right of those before it
+abbrev pub joined_fields : Forbidden → List Positioned → Forbidden
+joined_fields so_far [] = so_far
+joined_fields so_far (p ∷ ps) =
+    joined_fields (or so_far (moved_tree p.start p.held.forbidden)) ps
 
-abbrev pub first_head : List Frame → Option (List Pair)
-first_head [] = None
-first_head (f ∷ fs) = f.head
+abbrev pub fields_forbidden : List Positioned → Forbidden
+fields_forbidden [] = nothing
+fields_forbidden (p ∷ ps) = joined_fields (moved_tree p.start p.held.forbidden) ps
 
 -- the frame of a struct of these fields, where `align` may request an alignment: its bytes from the end of the last field to the rounding at the
 -- fields' own alignment are free too, and its count is the fields' own where no byte was added
@@ -78,8 +79,7 @@ struct_frame fs align =
           (λ at. bit_or (fields_byte (positions 0 fs) at)
           (whole_between end (next_multiple_of end (fields_align fs)) at))
           size;
-      forbids = fields_items (positions 0 fs);
-      head = first_head fs;
+      forbidden = fields_forbidden (positions 0 fs);
       niches = counted (size == total_size fs) (total_count fs);
       indirections = is_indirect fs;
     }

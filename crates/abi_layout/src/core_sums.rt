@@ -1,5 +1,6 @@
 ghost use Rattle.std.specs.Prelude.{◌≡◌, ◌+◌, ◌<◌, ◌∷◌, ◌&&◌, [], None, true, false, IfOk, IfErr, MatchOption};
 ghost use Rattle.abi_bits.specs.Forbidden.{items, pattern};
+ghost use Rattle.abi_det.specs.Frame.{forbids};
 ghost use Rattle.abi_layout.specs.CoreSums.{is_empty, is_void, is_one, sole_pattern, is_sole_pattern, payload_first, payload, absence, is_core_sum, core_frame};
 ghost use Rattle.abi_layout.specs.Faults.{IsFault, core_fault};
 ghost use Rattle.abi_layout.specs.PartView.{shape};
@@ -95,9 +96,9 @@ fn absence<'a>(ok: &'a Layout, err: &'a Layout) -> Option<&'a Pattern>
 /// The pattern that is the only thing forbidden and the only niche; `None` where there is none.
 fn sole_niche(layout: &Layout) -> Option<&Pattern>
     ensures { MatchOption result
-        ((is_one layout.now.niches && is_sole_pattern layout.now.forbids) ≡ false)
-        (λ found. ((is_one layout.now.niches && is_sole_pattern layout.now.forbids) ≡ true)
-        × (found.now ≡ sole_pattern layout.now.forbids)) }
+        ((is_one layout.now.niches && is_sole_pattern (forbids layout.now)) ≡ false)
+        (λ found. ((is_one layout.now.niches && is_sole_pattern (forbids layout.now)) ≡ true)
+        × (found.now ≡ sole_pattern (forbids layout.now))) }
 {
     match layout.niches() {
         SaturatingAddValue::B1 => sole_pattern(layout.forbidden()),

@@ -1,9 +1,9 @@
 ghost use Rattle.std.specs.Prelude.{◌≡◌, ◌≤◌, ◌==◌, ◌∷◌, ◌++◌, ◌&&◌, [], true, not, Some, IsTrue, IfOk, map};
 ghost use Rattle.std.specs.List.{list_all};
 ghost use Rattle.abi_bits.specs.Pairs.{are_bytes, is_pattern};
-ghost use Rattle.abi_bits.specs.Forbidden.{items, head, offer, offered, is_solid_byte, is_solid_item};
+ghost use Rattle.abi_bits.specs.Forbidden.{alone, tree, joined_from, tree_of, offer, offered, is_solid_byte, is_solid_item};
 ghost use Rattle.abi_bits.specs.Mask.{mask_at};
-ghost use Rattle.abi_layout.specs.Leaves.{is_sized, rise, AreRising, have_bits, is_byte_item, is_leaf, leaf_frame, first_offered};
+ghost use Rattle.abi_layout.specs.Leaves.{is_sized, rise, AreRising, have_bits, is_byte_item, is_leaf, leaf_frame};
 ghost use Rattle.abi_layout.specs.Trees.{item_of, leaf_items};
 
 use crate::desc::{Forbid, LeafDesc};
@@ -195,8 +195,7 @@ pub(crate) fn free_of(alloc: Global, leaf: &LeafDesc) -> Result<BitMask, OutOfMe
 pub(crate) fn forbidden_of(alloc: Global, leaf: &LeafDesc) -> Result<ForbiddenValues, OutOfMemory>
     requires form { is_leaf leaf.now ≡ true }
     requires small { leaf.now.size ≤ MAX_SIZE }
-    ensures items { IfOk result (λ values. items values ≡ leaf_items leaf.now) }
-    ensures head { IfOk result (λ values. head values ≡ first_offered (leaf_items leaf.now)) }
+    ensures { IfOk result (λ values. tree values ≡ tree_of (leaf_items leaf.now)) }
 {
     match leaf.forbidden.as_slice().split_first() {
         None => Ok(ForbiddenValues::End),
@@ -215,8 +214,7 @@ fn with_items(
     others: &[Forbid],
 ) -> Result<ForbiddenValues, OutOfMemory>
     requires { IsTrue (list_all is_pattern (offered (map item_of others.now))) }
-    ensures items { IfOk result (λ all. items all ≡ items values ++ map item_of others.now) }
-    ensures head { IfOk result (λ all. head all ≡ head values) }
+    ensures { IfOk result (λ all. tree all ≡ joined_from (tree values) (map item_of others.now)) }
 {
     for item in others {
         let next = values_of(alloc, item)?;
@@ -228,8 +226,7 @@ fn with_items(
 /// What the item forbids; a pattern names some bytes below `MAX_SIZE`, each once and in order.
 fn values_of(alloc: Global, item: &Forbid) -> Result<ForbiddenValues, OutOfMemory>
     requires { IsTrue (is_pattern (offer (item_of item.now))) }
-    ensures items { IfOk result (λ values. items values ≡ item_of item.now ∷ []) }
-    ensures head { IfOk result (λ values. head values ≡ Some (offer (item_of item.now))) }
+    ensures { IfOk result (λ values. tree values ≡ alone (item_of item.now)) }
 {
     match item {
         Forbid::Pattern(pairs) => match Pattern::new(alloc, pairs.as_slice())? {

@@ -17,17 +17,11 @@ mod packed_sums;
 mod part;
 mod placed;
 mod prim;
-#[cfg(test)]
-mod prim_tests;
 mod primitives;
-#[cfg(test)]
-mod report_tests;
 mod reports;
 mod scalar;
 mod structs;
 mod sums;
-#[cfg(test)]
-mod tests;
 mod walk;
 mod wrappers;
 
@@ -44,5 +38,5 @@ pub use prim::{Form, IntKind, Primitive as Prim};
 pub use primitives::{Row, as_uint, pointer_row, prim_layout, row_of};
 pub use reports::{id_of, report_of};
 pub use scalar::{Integer, Scalar, Stored, Width};
-pub use structs::struct_layout;
+pub use structs::{end_after, struct_layout};
 pub use sums::packed_sum;

@@ -1,11 +1,11 @@
 ghost use Rattle.std.specs.Prelude.{◌≡◌, ◌<◌, ◌≤◌, ◌+◌, IsTrue, IfOk, IfErr, None, Some, false, [], ◌∷◌};
 ghost use Rattle.abi_num.specs.Target.{is_row};
-ghost use Rattle.abi_bits.specs.Forbidden.{items, head, range};
+ghost use Rattle.abi_bits.specs.Forbidden.{alone, range, tree, tree_of};
 ghost use Rattle.abi_det.specs.Frame.{IsLawful};
 ghost use Rattle.abi_layout.specs.Faults.{IsFault, prim_fault};
 ghost use Rattle.abi_layout.specs.PartView.{shape};
 ghost use Rattle.abi_layout.specs.Shape.{scalar, atom};
-ghost use Rattle.abi_layout.specs.Prims.{pointer_width, kind_width, is_signed, kind_align, integer, plain_integer, restricted, is_form, row_of, scalar_of, is_never_null, pointer_row, zero_bytes, scalar_items, scalar_head, row_frame, prim_frame, uint_frame};
+ghost use Rattle.abi_layout.specs.Prims.{pointer_width, kind_width, is_signed, kind_align, integer, plain_integer, restricted, is_form, row_of, scalar_of, is_never_null, pointer_row, zero_bytes, scalar_items, row_frame, prim_frame, uint_frame};
 
 use crate::builders::bare;
 use crate::desc::PointerKind;
@@ -304,8 +304,7 @@ pub(crate) fn row_layout(alloc: Global, row: Row) -> Result<Layout, OutOfMemory>
 
 /// What the bytes never are.
 fn forbidden_of(alloc: Global, scalar: Scalar) -> Result<ForbiddenValues, OutOfMemory>
-    ensures items { IfOk result (λ forbidden. items forbidden ≡ scalar_items scalar) }
-    ensures head { IfOk result (λ forbidden. head forbidden ≡ scalar_head scalar) }
+    ensures { IfOk result (λ forbidden. tree forbidden ≡ tree_of (scalar_items scalar)) }
 {
     match scalar {
         Scalar::Unit => Ok(ForbiddenValues::End),
@@ -323,8 +322,7 @@ fn forbidden_of(alloc: Global, scalar: Scalar) -> Result<ForbiddenValues, OutOfM
 
 /// The values of the first byte from 2 to `max`.
 fn from_two(max: u8) -> ForbiddenValues
-    ensures items { items result ≡ range 0 2 max ∷ [] }
-    ensures head { head result ≡ Some ((0, 2) ∷ []) }
+    ensures { tree result ≡ alone (range 0 2 max) }
 {
     ForbiddenValues::ForbiddenRange {
         min: 2,

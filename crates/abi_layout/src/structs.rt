@@ -91,8 +91,8 @@ fn with_fields(
     Ok(Some(whole))
 }
 
-/// Where a field that comes after `end` bytes ends.
-pub(crate) fn end_after(end: u64, field: &Layout) -> u64
+/// Where a field that comes after `end` bytes ends, in bytes. `end` is at most `MAX_SIZE`.
+pub fn end_after(end: u64, field: &Layout) -> u64
     requires { end ≤ MAX_SIZE }
     ensures { result ≡ start_after end field.now + field.now.size }
 {

@@ -98,7 +98,8 @@ impl<W: Word, R: Restriction<W>> Restricted<W, R> {
 impl<W: Word, R: Restriction<W>> TryFrom<R::Number> for Restricted<W, R> {
     type Error = IllegalValue;
 
-    ghost try_from_gives = { λ n r. MatchResult r (λ x. (x ≡ n) × (n ≢ R.forbidden)) (λ _. n ≡ R.forbidden) };
+    ghost try_from_gives = { λ n r.
+        MatchResult r (λ x. (x ≡ n) × (n ≢ R.forbidden)) (λ _. n ≡ R.forbidden) };
 
     fn try_from(n: R::Number) -> Result<Self, IllegalValue> {
         match Self::new(n) {

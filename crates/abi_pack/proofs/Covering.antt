@@ -12,9 +12,10 @@ use Rattle.abi_num.specs.declared.target.Target.{Target}
 use Rattle.abi_bits.specs.Pairs.{Pair, is_matched, moved_pairs, is_pattern, are_bytes}
 use Rattle.abi_bits.specs.Mask.{mask_at, entries_below}
 use Rattle.abi_bits.specs.Forbidden.{Item, pattern, range, is_match, moved_item, is_solid_item}
+use Rattle.abi_bits.proofs.Trees.{items_made}
 use Rattle.abi_bits.proofs.Entries.{entries_at, zero_past}
 use Rattle.abi_bits.proofs.Masks.{zero_or, or_zero}
-use Rattle.abi_det.specs.Frame.{Frame}
+use Rattle.abi_det.specs.Frame.{Frame, forbids}
 use Rattle.abi_det.specs.Offers.{Rules}
 use Rattle.abi_det.specs.SoundPlacement as placements
 use Rattle.abi_det.specs.Roles.{union_size}
@@ -31,9 +32,9 @@ use Rattle.abi_layout.specs.Faults.{part_fault, part_fault_in}
 use Rattle.abi_layout.specs.Frames.{written_frame, written_frames, wrapped}
 use Rattle.abi_layout.specs.Leaves.{leaf_frame}
 use Rattle.abi_layout.specs.Plans.{shape_of, shapes_of, sum_layout_of, core_layout}
-use Rattle.abi_layout.specs.Prims.{prim_row, pointer_row, row_frame}
+use Rattle.abi_layout.specs.Prims.{prim_row, pointer_row, row_frame, scalar_items}
 use Rattle.abi_layout.specs.Shape.{Shape, atom, scalar, raw, fields, sum, last, field, repeated, size, size_in}
-use Rattle.abi_layout.specs.Structs.{positions, end_of, fields_align, fields_byte, fields_items, struct_frame}
+use Rattle.abi_layout.specs.Structs.{positions, end_of, fields_align, fields_byte, struct_frame}
 use Rattle.abi_layout.specs.Trees as trees
 use Rattle.abi_layout.specs.Trees.{Tree, Branches, Label, sides, leaf_items, parts, parts_in}
 use Rattle.abi_layout.specs.declared.desc.LeafDesc.{LeafDesc}
@@ -43,6 +44,7 @@ use Rattle.abi_layout.specs.declared.part.Compound.TheVariants as compound
 use Rattle.abi_layout.specs.declared.part.Sort.{Sort}
 use Rattle.abi_layout.specs.declared.part.SumLayout.{SumLayout}
 use Rattle.abi_layout.specs.declared.primitives.Row.{Row}
+use Rattle.abi_layout.proofs.Folding.{fields_items, items_in_fields}
 use Rattle.abi_layout.proofs.Bytes.{whole_past, whole_before, byte_inside, byte_before}
 use Rattle.abi_layout.proofs.Faultless.{no_fault, after_one, after_two, core_faultless, struct_end}
 use Rattle.abi_layout.proofs.Repeating.{repeated_size}
@@ -58,7 +60,7 @@ use Rattle.abi_pack.proofs.TreeValues.{after_end, same_size, moved, from_zero}
 
 pub record Covers (f : Frame) (s : Shape) : Type 0 where
   pub free : (v : Plain) (i k : ℕ) → k < 8 → has f.free i k ≡ true → holds s v i k ≡ false
-  pub items : (v : Plain) (g : ByteMap) → Shows s v g → list_any (is_match g) f.forbids ≡ false
+  pub items : (v : Plain) (g : ByteMap) → Shows s v g → list_any (is_match g) (forbids f) ≡ false
 
 -- ---- bits of bytes
 
@@ -77,7 +79,7 @@ no_bit : (k : ℕ) → eqb (bit_at 0 k) 1 ≡ true → ⊥
 no_bit k h = let none : eqb (bit_at 0 k) 1 ≡ false = rw (bit_at-zero k) refl in absurd (cc)
 
 -- a frame that frees and forbids nothing
-nothing_covers : (f : Frame) (s : Shape) → f.free ≡ [] → f.forbids ≡ [] → Covers f s
+nothing_covers : (f : Frame) (s : Shape) → f.free ≡ [] → (forbids f) ≡ [] → Covers f s
 nothing_covers f s free items = record {
   free = λ v i k small h. absurd (no_bit k (rw free at h));
   items = λ v g shown. rw items refl;
@@ -89,19 +91,19 @@ row_covers : (r : Row) → Covers (row_frame r) (atom (scalar r.scalar))
 unfolding row_frame
 row_covers r = record {
   free = λ v i k small h. absurd (no_bit k h);
-  items = λ v g shown. atom_allowed (scalar r.scalar) v g shown;
+  items = λ v g shown. rw (items_made (scalar_items r.scalar)) (atom_allowed (scalar r.scalar) v g shown);
 }
 
 leaf_covers : (l : LeafDesc) → Covers (leaf_frame l) (atom (raw l.size l.free (leaf_items l)))
 unfolding leaf_frame
 leaf_covers l = record {
   free = λ v i k small h. rw h (and_no (ltb i l.size) false refl);
-  items = λ v g shown. atom_allowed (raw l.size l.free (leaf_items l)) v g shown;
+  items = λ v g shown. rw (items_made (leaf_items l)) (atom_allowed (raw l.size l.free (leaf_items l)) v g shown);
 }
 
 leaf_consistent : (l : LeafDesc) → placements.IsWellFormed (leaf_frame l) → IsConsistent (atom (raw l.size l.free (leaf_items l)))
 unfolding leaf_frame
-leaf_consistent l sound = (sound.mask, (lawful_parts (leaf_frame l) sound.lawful).solid)
+leaf_consistent l sound = (sound.mask, rw (items_made (leaf_items l)) at (lawful_parts (leaf_frame l) sound.lawful).solid)
 
 union_covers : (ok err : Frame) (s : Shape) → Covers (overlaid ok err) s
 unfolding overlaid
@@ -157,8 +159,8 @@ sum_layout_side rules f g a b are o first =
       imposed = λ imposed v i k small own. free_not_held (sides f g first) (sides a b first) v (start_of (sum_layout_of rules f g) first) len c i k small
           (rw (← e) (side.imposed imposed i k small own));
       forbids = λ lacks v h holds_ shown.
-          let some : list_any (is_match (seen_from (start_of (sum_layout_of rules f g) first) h)) (sides f g first).forbids ≡ true = rw (← e) (side.forbids lacks h holds_) in
-          let none : list_any (is_match (seen_from (start_of (sum_layout_of rules f g) first) h)) (sides f g first).forbids ≡ false =
+          let some : list_any (is_match (seen_from (start_of (sum_layout_of rules f g) first) h)) (forbids (sides f g first)) ≡ true = rw (← e) (side.forbids lacks h holds_) in
+          let none : list_any (is_match (seen_from (start_of (sum_layout_of rules f g) first) h)) (forbids (sides f g first)) ≡ false =
           c.items v (seen_from (start_of (sum_layout_of rules f g) first) h) shown in absurd (cc);
     }
 
@@ -249,7 +251,7 @@ one_free n f s c (list (more v vs)) i k small h = item_free s v i k (c.free v i 
 one_free n f s c (list end) i k small h = refl
 one_free n f s c _ i k small h = refl
 
-one_allowed : (n : ℕ) (f : Frame) (s : Shape) → Covers f s → (v : Plain) (g : ByteMap) → Shows (fields compound.Array n (repeated 1 s)) v g → list_any (is_match g) f.forbids ≡ false
+one_allowed : (n : ℕ) (f : Frame) (s : Shape) → Covers f s → (v : Plain) (g : ByteMap) → Shows (fields compound.Array n (repeated 1 s)) v g → list_any (is_match g) (forbids f) ≡ false
 one_allowed n f s c (list (more v vs)) g shown = c.items v g (subst (λ x. Shows s v x) (from_zero g) shown.0)
 one_allowed n f s c (list end) g shown = absurd shown
 one_allowed n f s c _ g shown = absurd shown
@@ -372,8 +374,8 @@ fields_allowed rules target before (trees.field name t fs) (more v vs) f g all e
     let le = after_end before w in
     let len : size s ≡ w.size = same_size rules target t in
     let here : seen_from start f ≡ seen_from gap g = moved before start gap f g e (omega (arith, le)) in
-    joined_none f (map (moved_item start) w.forbids) (fields_items (positions (start + w.size) (written_frames rules target fs)))
-    (moved_any start w.forbids f ∙ rw here (all.0.items v (seen_from gap g) shown.0))
+    joined_none f (map (moved_item start) (forbids w)) (fields_items (positions (start + w.size) (written_frames rules target fs)))
+    (moved_any start (forbids w) f ∙ rw here (all.0.items v (seen_from gap g) shown.0))
     (fields_allowed rules target (start + w.size) fs vs f (seen_from (gap + size s) g) all.3
     (λ i. e (gap + size s + i) ∙ ap f (omega (arith, le, len))) shown.1)
 fields_allowed rules target before (trees.field name t fs) end f g all e shown = absurd shown
@@ -421,9 +423,10 @@ struct_free rules target label fs align (bytes x) i k all small h = refl
 struct_free rules target label fs align (variant kind first v) i k all small h = refl
 
 struct_allowed : (rules : Rules) (target : Target) (label : Label) (fs : Branches) (align : Option ℕ) (v : Plain) (g : ByteMap) → AllCover rules target fs
-    → Shows (shape_of rules target (trees.struct label fs align)) v g → list_any (is_match g) (struct_frame (written_frames rules target fs) align).forbids ≡ false
+    → Shows (shape_of rules target (trees.struct label fs align)) v g → list_any (is_match g) (forbids (struct_frame (written_frames rules target fs) align)) ≡ false
 unfolding struct_frame
-struct_allowed rules target label fs align (list vs) g all shown = fields_allowed rules target 0 fs vs g g all (λ i. ap g (omega arith)) shown
+struct_allowed rules target label fs align (list vs) g all shown =
+    rw (items_in_fields (positions 0 (written_frames rules target fs))) (fields_allowed rules target 0 fs vs g g all (λ i. ap g (omega arith)) shown)
 struct_allowed rules target label fs align _ g all shown = absurd shown
 
 -- ---- every description without a fault
@@ -462,7 +465,7 @@ sole (pattern ps ∷ []) h = refl
 sole (pattern ps ∷ it ∷ its) h = absurd (cc)
 sole (range at least greatest ∷ its) h = absurd (cc)
 
-niche_tested : (f : Frame) (ps : List Pair) → placements.IsWellFormed f → f.forbids ≡ pattern ps ∷ [] → placements.IsTest (test.ValueIsErr ps) f.size
+niche_tested : (f : Frame) (ps : List Pair) → placements.IsWellFormed f → (forbids f) ≡ pattern ps ∷ [] → placements.IsTest (test.ValueIsErr ps) f.size
 niche_tested f ps sound one = (
   head_of is_pattern (rw one at sound.patterns),
   bytes_in f.size f.size f.free ps (omega arith) (solid (rw one at (lawful_parts f sound.lawful).solid)),
@@ -478,16 +481,16 @@ niche_tested f ps sound one = (
 no_bytes : (f : Frame) → is_empty f ≡ true → f.size ≡ 0
 no_bytes f h = eqb-true f.size 0 (and_parts (eqb f.size 0) (eqb f.align 1) h).0
 
-lacks_niche : (f : Frame) (s : Shape) (ps : List Pair) → Covers f s → f.forbids ≡ pattern ps ∷ [] → (v : Plain) (g : ByteMap) → Shows s v g → is_matched ps g ≡ false
+lacks_niche : (f : Frame) (s : Shape) (ps : List Pair) → Covers f s → (forbids f) ≡ pattern ps ∷ [] → (v : Plain) (g : ByteMap) → Shows s v g → is_matched ps g ≡ false
 lacks_niche f s ps c one v g shown = neither_first (is_matched ps g) false (rw one at (c.items v g shown))
 
 core_covered : (names : Sort) (ok err : Frame) (a b : Shape) → size a ≡ ok.size → size b ≡ err.size → IsCovered ok a → IsCovered err b
     → placements.IsWellFormed ok → placements.IsWellFormed err → is_core_sum ok err ≡ true
     → IsCovered (core_frame ok err) (sum names (sides a b) (core_layout ok err))
 core_covered names ok err a b na nb ca cb sa sb h =
-    let front : Bool = is_one (payload ok err).niches && is_sole_pattern (payload ok err).forbids in
+    let front : Bool = is_one (payload ok err).niches && is_sole_pattern (forbids (payload ok err)) in
     let whole = and_parts front (is_empty (sides err ok (payload_first ok err))) h in
-    let one = sole (payload ok err).forbids (and_parts (is_one (payload ok err).niches) (is_sole_pattern (payload ok err).forbids) whole.0).1 in
+    let one = sole (forbids (payload ok err)) (and_parts (is_one (payload ok err).niches) (is_sole_pattern (forbids (payload ok err))) whole.0).1 in
     let none = no_bytes (sides err ok (payload_first ok err)) whole.1 in
     let ps : List Pair = absence ok err in
     record {
@@ -509,7 +512,7 @@ core_covered names ok err a b na nb ca cb sa sb h =
     payload_sound true = sa
     payload_sound false = sb
 
-    are : (first : Bool) (ps : List Pair) → (sides ok err first).forbids ≡ pattern ps ∷ [] → (sides err ok first).size ≡ 0
+    are : (first : Bool) (ps : List Pair) → (forbids (sides ok err first)) ≡ pattern ps ∷ [] → (sides err ok first).size ≡ 0
         → AreCore first (sides ok err first).size ps (sides a b)
     are true ps one none = record { same = na; lacks = lacks_niche ok a ps ca.covers one; none = nb ∙ none }
     are false ps one none = record { same = nb; lacks = lacks_niche err b ps cb.covers one; none = na ∙ none }

@@ -5,6 +5,7 @@ use Rattle.std.specs.List.{list_any}
 use Rattle.abi_num.specs.declared.target.Target.{Target}
 use Rattle.abi_bits.specs.Forbidden.{is_match}
 use Rattle.abi_bits.specs.Mask.{Has}
+use Rattle.abi_det.specs.Frame.{forbids}
 use Rattle.abi_det.specs.Offers.{Rules}
 use Rattle.abi_layout.specs.Faults.{desc_fault}
 use Rattle.abi_layout.specs.Frames.{written_frame}
@@ -100,7 +101,7 @@ ItemLaw =
     (rules : Rules) (target : Target) (t : Tree) (v : Plain) (f : ByteMap)
     → Faultless rules target t → AreBytes f
     → Shows rules target t v f
-    → list_any (is_match f) (written_frame rules target t).forbids ≡ false
+    → list_any (is_match f) (forbids (written_frame rules target t)) ≡ false
 
 -- two values have equal canonical bytes exactly where they are equal
 abbrev pub PackedLaw : Type 0

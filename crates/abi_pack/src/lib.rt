@@ -20,8 +20,6 @@ mod scalars;
 mod shown;
 mod sides;
 mod step;
-#[cfg(test)]
-mod tests;
 mod value;
 mod write;
 

@@ -52,11 +52,12 @@ pub struct Plan {
 impl Model for Plan {
     ghost use Rattle.abi_pack.specs.Packing.{Packing, packing};
     ghost use Rattle.abi_layout.specs.contracts.part.Part as e;
+    ghost use Rattle.abi_bits.specs.ForbiddenCode.{forbidden_code};
     ghost use Rattle.std.specs.Coded.{codes};
 
     ghost Value = { Packing };
 
-    ghost coded = { Prim.hlevel (codes, e.the_row.coded) };
+    ghost coded = { Prim.hlevel (codes, forbidden_code, e.the_row.coded) };
 
     ghost use Rattle.abi_pack.specs.PlanShape.{IsPlan};
 

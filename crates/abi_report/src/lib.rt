@@ -5,8 +5,6 @@ mod compatible;
 mod fields;
 mod hash;
 mod identifier;
-#[cfg(test)]
-mod tests;
 mod text;
 mod ty_ty;
 mod type_report;

@@ -1,5 +1,5 @@
 -- Typed sums as values of their descriptions.
-use Rattle.std.specs.Prelude.{Bool, true, false}
+use Rattle.std.specs.Prelude.{true, false}
 use Rattle.abi_layout.specs.declared.part.Sort.TheVariants as sort
 use Rattle.abi_pack.specs.Plain.{Plain, unit, variant}
 use Rattle.abi_result.specs.declared.option.Option.{Option}

@@ -1,10 +1,8 @@
 -- What typed sums and wrappers owe to their descriptions where their contents keep the laws.
-use Rattle.std.proofs.Common.{◌≡◌, Bool, true, false, ◌&&◌, ◌||◌, refl, ap, ◌∙◌, sym}
-use Rattle.abi_num.specs.declared.target.Target.{Target}
-use Rattle.abi_det.specs.Offers.{Rules}
+use Rattle.std.proofs.Common.{◌≡◌, Bool, true, false, ◌&&◌, ◌||◌, refl, ap, ◌∙◌}
 use Rattle.abi_det.specs.Written.{written_sum}
 use Rattle.abi_layout.specs.Frames.{written_frame}
-use Rattle.abi_layout.specs.Trees.{Tree, sides, sum, prim, wrap, stable_if, result, option}
+use Rattle.abi_layout.specs.Trees.{Tree, sides, sum, prim, wrap, result, option}
 use Rattle.abi_layout.specs.declared.desc.WrapKind.TheVariants as wrapper
 use Rattle.abi_layout.specs.declared.part.Sort.{Sort}
 use Rattle.abi_layout.specs.declared.part.Sort.TheVariants as sort

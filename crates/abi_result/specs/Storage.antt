@@ -1,5 +1,5 @@
 -- What the bytes of a typed value are, and what bytes are read as.
-use Rattle.std.specs.Prelude.{◌≡◌, ◌≢◌, List, ℕ, Some, None, Result, Ok, Err, IfOk}
+use Rattle.std.specs.Prelude.{◌≡◌, ◌≢◌, List, ℕ, Some, None, Result, IfOk}
 use Rattle.abi_num.specs.declared.target.Target.{Target}
 use Rattle.abi_det.specs.Offers.{One}
 use Rattle.abi_layout.specs.Faults.{IsFault, desc_fault}

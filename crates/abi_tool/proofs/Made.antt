@@ -1,6 +1,6 @@
 -- A made job is done unless memory is refused: it has no fault, and reading gives its value again.
-use Rattle.std.proofs.Common.{◌≡◌, ◌⊎◌, inl, inr, ℕ, List, [], ◌∷◌, true, Option, Some, None, Result, Ok, Err, IfOk, IsTrue, refl, sym, subst, arith}
-use Rattle.std.specs.Io.KnownBytes.{Appends, Keeps}
+use Rattle.std.proofs.Common.{◌≡◌, ◌⊎◌, inl, inr, ℕ, List, [], Option, None, Result, Ok, Err, IfOk, IsTrue, refl, arith}
+use Rattle.std.specs.Io.KnownBytes.{Appends}
 use Rattle.abi_num.specs.declared.target.Target.{Target}
 use Rattle.abi_det.specs.Offers.{One}
 use Rattle.abi_layout.specs.Faults.{IsFault, desc_fault}

@@ -10,7 +10,7 @@ use Rattle.abi_num.specs.declared.target.Target.{Target}
 use Rattle.abi_bits.specs.Pairs.{Pair}
 use Rattle.abi_bits.specs.Mask.{Has}
 use Rattle.abi_bits.specs.Forbidden.{is_match}
-use Rattle.abi_det.specs.Frame.{Frame}
+use Rattle.abi_det.specs.Frame.{Frame, forbids}
 use Rattle.abi_det.specs.Roles.{larger, smaller, is_place, union_size, sum_align}
 use Rattle.abi_det.specs.Offers.{One}
 use Rattle.abi_det.specs.Niches.{IsNiche, OffersNone}
@@ -47,7 +47,7 @@ AgreesOutside free size f g = (n : ℕ) → n < 8 * size → (Has free n → ⊥
 -- the image shows this value and no other, and matches no forbidden item
 pub record ShowsOnly (target : Target) (t : Tree) (value : Plain) (image : Bytes) : Type 0 where
   pub shown : (v : Plain) → Shows One target t v image ↔ (v ≡ value)
-  pub allowed : list_any (is_match image) (written_frame One target t).forbids ≡ false
+  pub allowed : list_any (is_match image) (forbids (written_frame One target t)) ≡ false
 
 -- ---- the packed sums
 

@@ -13,7 +13,7 @@ use Rattle.abi_bits.specs.Mask.{mask_at}
 use Rattle.abi_bits.specs.Forbidden.{Item, pattern, range}
 use Rattle.abi_bits.specs.declared.saturating_add_value.SaturatingAddValue.{SaturatingAddValue}
 use Rattle.abi_bits.specs.declared.saturating_add_value.SaturatingAddValue.TheVariants as count
-use Rattle.abi_det.specs.Frame.{Frame}
+use Rattle.abi_det.specs.Frame.{Frame, forbids}
 use Rattle.abi_det.specs.declared.placements.Refusal.{Refusal}
 use Rattle.abi_det.specs.declared.placements.Kind.{Kind}
 use Rattle.abi_det.specs.declared.placements.Kind.TheVariants as kind
@@ -90,7 +90,7 @@ forbidden_line its = codes "forbidden" ++ items_text its ++ codes "\n"
 unfoldable pub layout_lines : Frame → List ℕ
 layout_lines f =
     size_line f.size ++ align_line f.align ++ niches_line f.niches
-    ++ indirections_line f.indirections ++ free_line f.free ++ forbidden_line f.forbids
+    ++ indirections_line f.indirections ++ free_line f.free ++ forbidden_line (forbids f)
 
 -- ---- sums
 

@@ -1,13 +1,12 @@
 -- What integers of a fixed width owe to their primitives, on every target.
-use Rattle.std.specs.Prelude.{nat_lt, nat_le, unsigned_abs}
+use Rattle.std.specs.Prelude.{unsigned_abs}
 use Rattle.std.specs.Int.{is_negative}
-use Rattle.std.proofs.Common.{◌≡◌, ◌↔◌, ℕ, zero, suc, ◌+◌, ◌-◌, ◌*◌, ◌^◌, ◌<◌, ◌≤◌, ℤ, pos, negsuc, Bool, true, false, ◌&&◌, not, ◌==◌, FitsSigned, refl, ap, ◌∙◌, sym, arith}
+use Rattle.std.proofs.Common.{◌≡◌, ◌↔◌, ℕ, zero, ◌+◌, ◌-◌, ◌*◌, ◌^◌, ℤ, pos, negsuc, Bool, true, false, ◌&&◌, not, ◌==◌, refl, ap, ◌∙◌, sym, arith}
 use Rattle.std.proofs.lemmas.Bool.{and_parts, and_from}
 use Rattle.std.proofs.lemmas.Bool.Decides.{nat_tests}
 use Rattle.abi_num.specs.Target.{same_bool}
 use Rattle.abi_num.specs.declared.target.Target.{Target}
 use Rattle.abi_det.specs.Offers.{Rules}
-use Rattle.abi_layout.specs.Frames.{written_frame}
 use Rattle.abi_layout.specs.Prims.{width_size, in_width, scalar_of, prim_row, plain_integer, restricted, row_frame}
 use Rattle.abi_layout.specs.Trees.{prim}
 use Rattle.abi_layout.specs.declared.prim.Primitive.{Primitive}
@@ -18,8 +17,8 @@ use Rattle.abi_layout.specs.declared.scalar.Stored.{Stored}
 use Rattle.abi_layout.specs.declared.scalar.Stored.TheVariants as stored
 use Rattle.abi_layout.specs.declared.scalar.Width.{Width}
 use Rattle.abi_layout.specs.declared.scalar.Width.TheVariants as width
-use Rattle.abi_pack.specs.Plain.{Plain, unit, integer, boolean, order, bytes, list, variant}
-use Rattle.abi_pack.specs.Values.{is_of, in_range, left_out, fits}
+use Rattle.abi_pack.specs.Plain.{Plain, integer}
+use Rattle.abi_pack.specs.Values.{is_of, left_out, fits}
 use Rattle.abi_typed.specs.Integers.{kind_of, primitive_of}
 use Rattle.abi_typed.specs.Stable.{IsFixed, Fits, Indirections}
 

@@ -6,10 +6,10 @@ use Rattle.abi_layout.proofs.builders.aligned_after.Goals as goal
 pub shift-requires : goal.shift-requires
 shift-requires c =
     let start : c.next_multiple_of-from.result ≡ start_after c.args.start c.args.t.now = cc in
-    forbids_move c.args.t.now c.next_multiple_of-from.result _ c.align.ensures.lawful c.forbidden.ensures.items (rw start c.requires)
+    forbids_move c.args.t.now c.next_multiple_of-from.result _ c.align.ensures.lawful c.forbidden.ensures.same (rw start c.requires)
 
 pub returns : goal.returns
 returns c =
     let start : c.next_multiple_of-from.result ≡ start_after c.args.start c.args.t.now = cc in
     after_made c.args.t.now _ c.args.start c.next_multiple_of-from.result c.new.result c.new.ensures start (cc) (cc) c.in_ok-unused.ensures
-    (rw c.forbidden.ensures.items at c.in_ok-forbidden.ensures.items) (rw c.forbidden.ensures.head at c.in_ok-forbidden.ensures.head) c.niches.ensures c.indirections.ensures
+    (rw c.forbidden.ensures.same at c.in_ok-forbidden.ensures) c.niches.ensures c.indirections.ensures

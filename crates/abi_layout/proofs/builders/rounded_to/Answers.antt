@@ -13,10 +13,10 @@ with_whole-requires-clause-within c =
 pub from_lawful-requires : goal.from_lawful-requires
 from_lawful-requires c =
     (rounded_made (frame c.args.t) _ c.args.whole c.next_multiple_of-own.result c.requires.open c.requires.aligned c.requires.larger c.next_multiple_of-own.ensures.value
-    c.next_multiple_of-size.ensures.value refl c.in_ok-unused.ensures.valid c.in_ok-unused.ensures.below c.in_ok-unused.ensures.bytes refl refl c.counted.ensures refl).0
+    c.next_multiple_of-size.ensures.value refl c.in_ok-unused.ensures.valid c.in_ok-unused.ensures.below c.in_ok-unused.ensures.bytes refl c.counted.ensures refl).0
 
 pub returns : goal.returns
 returns c =
     c.from_lawful.ensures
     ∙ (rounded_made (frame c.args.t) _ c.args.whole c.next_multiple_of-own.result c.requires.open c.requires.aligned c.requires.larger c.next_multiple_of-own.ensures.value
-    c.next_multiple_of-size.ensures.value refl c.in_ok-unused.ensures.valid c.in_ok-unused.ensures.below c.in_ok-unused.ensures.bytes refl refl c.counted.ensures refl).1
+    c.next_multiple_of-size.ensures.value refl c.in_ok-unused.ensures.valid c.in_ok-unused.ensures.below c.in_ok-unused.ensures.bytes refl c.counted.ensures refl).1

@@ -4,11 +4,9 @@ use Rattle.abi_layout.proofs.leaves.leaf_layout.Goals as goal
 
 pub from_lawful-requires : goal.from_lawful-requires
 from_lawful-requires c =
-    (leaf_made c.args.leaf.now _ c.requires.form c.requires.small refl refl c.in_ok-unused.ensures c.in_ok-forbidden.ensures.items
-    c.in_ok-forbidden.ensures.head refl refl).0
+    (leaf_made c.args.leaf.now _ c.requires.form c.requires.small refl refl c.in_ok-unused.ensures c.in_ok-forbidden.ensures refl refl).0
 
 pub returns : goal.returns
 returns c =
     c.from_lawful.ensures
-    ∙ (leaf_made c.args.leaf.now _ c.requires.form c.requires.small refl refl c.in_ok-unused.ensures c.in_ok-forbidden.ensures.items
-    c.in_ok-forbidden.ensures.head refl refl).1
+    ∙ (leaf_made c.args.leaf.now _ c.requires.form c.requires.small refl refl c.in_ok-unused.ensures c.in_ok-forbidden.ensures refl refl).1

@@ -1,4 +1,4 @@
-use Rattle.std.proofs.Common.{rules, ◌≡◌, count_ones, arith}
+use Rattle.std.proofs.Common.{rules, ◌≡◌, count_ones}
 use Rattle.abi_bits.specs.Mask.{mask_at}
 use Rattle.abi_tool.proofs.Sums.{one_more}
 use Rattle.abi_tool.proofs.made_text.free_bits.Goals as goal

@@ -1,4 +1,4 @@
-use Rattle.std.proofs.Common.{◌≡◌, Bool, true, refl}
+use Rattle.std.proofs.Common.{◌≡◌, true, refl}
 use Rattle.abi_layout.specs.Prims.{in_width}
 use Rattle.abi_typed.proofs.Restricting.{answered, unanswered}
 use Rattle.abi_typed.proofs.restricted.restricted_of.Goals as goal

@@ -1,7 +1,7 @@
 use Rattle.std.proofs.Common.{rules, ap, ◌∙◌}
 use Rattle.abi_bits.specs.Mask.{lies_free}
 use Rattle.abi_bits.specs.Single.{answer}
-use Rattle.abi_bits.specs.Forbidden.{ends_in_pattern}
+use Rattle.abi_bits.specs.Forbidden.{tree, ends_in_pattern}
 use Rattle.abi_bits.specs.declared.forbidden_values.ForbiddenValues.{the_lemmas}
 use Rattle.abi_bits.proofs.Forbids.{left_sound, right_sound, left_found, right_found, right_answer, not_found}
 use Rattle.abi_bits.proofs.forbidden_values.ForbiddenValues.+select_from.Goals as goal
@@ -19,7 +19,7 @@ returns-in-Array-2-clause-pattern t c =
 pub returns-in-Array-2-clause-same : goal.returns-in-Array-2-clause-same
 returns-in-Array-2-clause-same t c =
     let found = left_found (lies_free c.args.mask.now) _ _ _ _ c.in-Or.is (rw (c.in-Array-2.is, c.deref.ensures) at c.in_ok-pattern-in-Or.ensures.pattern) in
-    ap (λ x. answer x (ends_in_pattern c.args.self.now)) found
+    ap (λ x. answer x (ends_in_pattern (tree c.args.self.now))) found
 
 pub returns-in_ok-found-in-Or : goal.returns-in_ok-found-in-Or
 returns-in_ok-found-in-Or t c =

@@ -1,4 +1,4 @@
-use Rattle.std.proofs.Common.{rules, sym}
+use Rattle.std.proofs.Common.{sym}
 use Rattle.abi_result.proofs.storage.tests.there_and_back.Goals as goal
 
 pub returns : goal.returns

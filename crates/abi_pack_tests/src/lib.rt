@@ -1,0 +1,5 @@
+//! Tests of `abi_pack`: packing, reading and what bytes show.
+#![tactic(auto)]
+
+#[cfg(test)]
+mod tests;
